@@ -1,0 +1,213 @@
+-- Laws of the tests, counts and runs over the numbers below a limit. Assumes nothing.
+use mathlib.Core.Path.{_≡_, refl, sym, _∙_, ap, ap₂, subst}
+use mathlib.Core.Logic.{_⊎_, inl, inr, ⊎-elim}
+use mathlib.Core.Bool.{Bool, true, false, cond, _&&_, _||_, true≢false, false≢true}
+use Prim.Native.Nat.{ℕ, zero, suc, _+_, _<_, _≤_, max}
+use native.Mathlib.Nat.{not-suc-le-zero, le-refl}
+use native.Mathlib.Decide.{decLe}
+use native.Mathlib.Numerals.{add-one}
+use native.Mathlib.Omega.{arith}
+use Rattle.basics.specs.Below.{allBelow, anyBelow, countBelow, greatestBelow, runBelow}
+use Rattle.basics.proofs.Bools.{split, clash, false-of-not, and-left, and-right, and-both, and-false, or-true, or-left, or-right, or-fails, below-more}
+
+-- two functions agree below a limit
+abbrev pub Agree {ℓ} : {A : Type ℓ} → ℕ → (ℕ → A) → (ℕ → A) → Type ℓ
+Agree n f g = (i : ℕ) → i < n → f i ≡ g i
+
+-- what agrees below one more agrees below
+pub agree-below {ℓ} : {A : Type ℓ} {n : ℕ} {f g : ℕ → A} → Agree (suc n) f g → Agree n f g
+agree-below h i k = h i (omega arith)
+
+module _ (p : ℕ → Bool) where
+  -- each passes
+  pub all-none : allBelow p 0 ≡ true
+  unfolding allBelow
+  all-none = refl
+
+  pub all-more : (n : ℕ) → allBelow p (n + 1) ≡ allBelow p n && p n
+  unfolding allBelow
+  all-more n = rw add-one
+
+  pub all-passes : (n : ℕ) → allBelow p n ≡ true → p n ≡ true → allBelow p (n + 1) ≡ true
+  all-passes n e t = all-more n ∙ and-both (allBelow p n) (p n) e t
+
+  pub all-at : (n : ℕ) → allBelow p n ≡ true → (i : ℕ) → i < n → p i ≡ true
+  unfolding allBelow
+  all-at zero e i h = absurd (not-suc-le-zero h)
+  all-at (suc n) e i h =
+      below-more h (all-at n (and-left (allBelow p n) (p n) e) i) (λ q. subst (λ (j : ℕ). p j ≡ true) (sym q) (and-right (allBelow p n) (p n) e))
+
+  pub all-of : (n : ℕ) → ((i : ℕ) → i < n → p i ≡ true) → allBelow p n ≡ true
+  unfolding allBelow
+  all-of zero h = refl
+  all-of (suc n) h = and-both (allBelow p n) (p n) (all-of n (λ i k. h i (omega arith))) (h n (le-refl (suc n)))
+
+  -- one that fails, and the test that fails
+  pub all-fails : (n i : ℕ) → i < n → p i ≡ false → allBelow p n ≡ false
+  all-fails n i h e = false-of-not (allBelow p n) (λ a. clash (all-at n a i h) e)
+
+  pub all-false : (n : ℕ) → allBelow p n ≡ false → (i : ℕ) × (i < n) × (p i ≡ false)
+  unfolding allBelow
+  all-false zero e = absurd (true≢false e)
+  all-false (suc n) e =
+      ⊎-elim (λ a. let r = all-false n a in (r .0, omega arith, r .2)) (λ b. (n, le-refl (suc n), b)) (and-false (allBelow p n) (p n) e)
+
+  -- some passes
+  pub any-none : anyBelow p 0 ≡ false
+  unfolding anyBelow
+  any-none = refl
+
+  pub any-more : (n : ℕ) → anyBelow p (n + 1) ≡ anyBelow p n || p n
+  unfolding anyBelow
+  any-more n = rw add-one
+
+  pub any-skips : (n : ℕ) → anyBelow p n ≡ false → p n ≡ false → anyBelow p (n + 1) ≡ false
+  any-skips n e f = any-more n ∙ or-fails (anyBelow p n) (p n) e f
+
+  pub any-at : (n : ℕ) → anyBelow p n ≡ true → (i : ℕ) × (i < n) × (p i ≡ true)
+  unfolding anyBelow
+  any-at zero e = absurd (false≢true e)
+  any-at (suc n) e =
+      ⊎-elim (λ a. let r = any-at n a in (r .0, omega arith, r .2)) (λ b. (n, le-refl (suc n), b)) (or-true (anyBelow p n) (p n) e)
+
+  pub any-of : (n i : ℕ) → i < n → p i ≡ true → anyBelow p n ≡ true
+  unfolding anyBelow
+  any-of zero i h e = absurd (not-suc-le-zero h)
+  any-of (suc n) i h e =
+      below-more h (λ k. or-left (anyBelow p n) (p n) (any-of n i k e))
+      (λ q. or-right (anyBelow p n) (p n) (subst (λ (j : ℕ). p j ≡ true) q e))
+
+  -- nobody passes, and the test that fails
+  pub any-fails : (n : ℕ) → ((i : ℕ) → i < n → p i ≡ false) → anyBelow p n ≡ false
+  any-fails n h = false-of-not (anyBelow p n) (λ e. let r = any-at n e in clash (r .2) (h (r .0) (r .1)))
+
+  pub any-false : (n : ℕ) → anyBelow p n ≡ false → (i : ℕ) → i < n → p i ≡ false
+  any-false n e i h = false-of-not (p i) (λ t. clash (any-of n i h t) e)
+
+  -- how many pass
+  pub count-none : countBelow p 0 ≡ 0
+  unfolding countBelow
+  count-none = refl
+
+  pub count-more : (n : ℕ) → countBelow p (n + 1) ≡ countBelow p n + cond (p n) 1 0
+  unfolding countBelow
+  count-more n = rw add-one
+
+  pub count-passes : (n : ℕ) → p n ≡ true → countBelow p (n + 1) ≡ countBelow p n + 1
+  count-passes n e = count-more n ∙ ap (λ (b : Bool). countBelow p n + cond b 1 0) e
+
+  pub count-skips : (n : ℕ) → p n ≡ false → countBelow p (n + 1) ≡ countBelow p n
+  count-skips n e = count-more n ∙ ap (λ (b : Bool). countBelow p n + cond b 1 0) e ∙ omega arith
+
+  pub count-at-most : (n : ℕ) → countBelow p n ≤ n
+  unfolding countBelow
+  count-at-most zero = le-refl 0
+  count-at-most (suc n) = let h = count-at-most n in split (p n) (λ e. rw e (omega arith)) (λ e. rw e (omega arith))
+
+  -- nobody passes exactly if the count is 0
+  pub count-zero : (n : ℕ) → countBelow p n ≡ 0 → (i : ℕ) → i < n → p i ≡ false
+  unfolding countBelow
+  count-zero zero e i h = absurd (not-suc-le-zero h)
+  count-zero (suc n) e i h =
+      below-more h (count-zero n (omega arith) i)
+      (λ q. subst (λ (j : ℕ). p j ≡ false) (sym q) (false-of-not (p n) (λ t. let z = rw t at e in omega arith)))
+
+  pub count-nobody : (n : ℕ) → ((i : ℕ) → i < n → p i ≡ false) → countBelow p n ≡ 0
+  unfolding countBelow
+  count-nobody zero h = refl
+  count-nobody (suc n) h = rw (h n (le-refl (suc n)), count-nobody n (λ i k. h i (omega arith)))
+
+-- a test that passes where another does counts at least as much
+one-if-le : (a b : Bool) → (a ≡ true → b ≡ true) → cond a 1 0 ≤ cond b 1 0
+one-if-le false b h = omega arith
+one-if-le true b h = rw (h refl) (le-refl 1)
+
+module _ (p q : ℕ → Bool) where
+  -- a count is at most that of a test that passes more
+  pub count-le : (n : ℕ) → ((i : ℕ) → i < n → p i ≡ true → q i ≡ true) → countBelow p n ≤ countBelow q n
+  unfolding countBelow
+  count-le zero h = le-refl 0
+  count-le (suc n) h =
+      let rest = count-le n (λ i k. h i (omega arith)) in
+      let here = one-if-le (p n) (q n) (h n (le-refl (suc n))) in
+      omega arith
+
+  -- and strictly, where one passes the second alone
+  pub count-lt : (n : ℕ) → ((i : ℕ) → i < n → p i ≡ true → q i ≡ true) → (i : ℕ) → i < n → p i ≡ false → q i ≡ true
+      → countBelow p n < countBelow q n
+  unfolding countBelow
+  count-lt zero h i k e f = absurd (not-suc-le-zero k)
+  count-lt (suc n) h i k e f =
+      let rest = count-le n (λ j m. h j (omega arith)) in
+      let here = one-if-le (p n) (q n) (h n (le-refl (suc n))) in
+      below-more k (λ m. let strict = count-lt n (λ j l. h j (omega arith)) i m e f in omega arith)
+      (λ last. rw (rw last at e, rw last at f) (omega arith))
+
+  -- tests that agree give one answer
+  pub all-cong : (n : ℕ) → Agree n p q → allBelow p n ≡ allBelow q n
+  unfolding allBelow
+  all-cong zero h = refl
+  all-cong (suc n) h = ap₂ _&&_ (all-cong n (agree-below h)) (h n (le-refl (suc n)))
+
+  pub any-cong : (n : ℕ) → Agree n p q → anyBelow p n ≡ anyBelow q n
+  unfolding anyBelow
+  any-cong zero h = refl
+  any-cong (suc n) h = ap₂ _||_ (any-cong n (agree-below h)) (h n (le-refl (suc n)))
+
+  pub count-cong : (n : ℕ) → Agree n p q → countBelow p n ≡ countBelow q n
+  unfolding countBelow
+  count-cong zero h = refl
+  count-cong (suc n) h = ap₂ (λ c b. c + cond b 1 0) (count-cong n (agree-below h)) (h n (le-refl (suc n)))
+
+module _ (f : ℕ → ℕ) where
+  -- the greatest value is at least each, and reached
+  pub greatest-none : greatestBelow f 0 ≡ 0
+  unfolding greatestBelow
+  greatest-none = refl
+
+  pub greatest-more : (n : ℕ) → greatestBelow f (n + 1) ≡ max (greatestBelow f n) (f n)
+  unfolding greatestBelow
+  greatest-more n = rw add-one
+
+  pub greatest-at : (n i : ℕ) → i < n → f i ≤ greatestBelow f n
+  unfolding greatestBelow
+  greatest-at zero i h = absurd (not-suc-le-zero h)
+  greatest-at (suc n) i h = below-more h (λ k. let r = greatest-at n i k in omega arith) (λ e. rw e (omega arith))
+
+  pub greatest-bounded : (n b : ℕ) → ((i : ℕ) → i < n → f i ≤ b) → greatestBelow f n ≤ b
+  unfolding greatestBelow
+  greatest-bounded zero b h = omega arith
+  greatest-bounded (suc n) b h =
+      let rest = greatest-bounded n b (λ i k. h i (omega arith)) in
+      let here = h n (le-refl (suc n)) in
+      omega arith
+
+  pub greatest-reached : (n : ℕ) → (greatestBelow f n ≡ 0) ⊎ ((i : ℕ) × (i < n) × (f i ≡ greatestBelow f n))
+  unfolding greatestBelow
+  greatest-reached zero = inl refl
+  greatest-reached (suc n) =
+      elim (decLe (greatestBelow f n) (f n)) [
+        | yes h ↦ inr (n, le-refl (suc n), omega arith)
+        | no h ↦ ⊎-elim (λ z. absurd (h (omega arith))) (λ r. inr (r .0, omega arith, omega (arith, r .2))) (greatest-reached n)
+      ]
+
+pub greatest-cong : (f g : ℕ → ℕ) (n : ℕ) → Agree n f g → greatestBelow f n ≡ greatestBelow g n
+unfolding greatestBelow
+greatest-cong f g zero h = refl
+greatest-cong f g (suc n) h = ap₂ max (greatest-cong f g n (agree-below h)) (h n (le-refl (suc n)))
+
+module _ {ℓ} {A : Type ℓ} where
+  -- a run of no step, of one more, and of steps that agree
+  pub run-none : (f : ℕ → A → A) (a : A) → runBelow f 0 a ≡ a
+  unfolding runBelow
+  run-none f a = refl
+
+  pub run-more : (f : ℕ → A → A) (n : ℕ) (a : A) → runBelow f (n + 1) a ≡ f n (runBelow f n a)
+  unfolding runBelow
+  run-more f n a = rw add-one
+
+  pub run-cong : (f g : ℕ → A → A) (n : ℕ) (a : A) → ((i : ℕ) → i < n → (b : A) → f i b ≡ g i b) → runBelow f n a ≡ runBelow g n a
+  unfolding runBelow
+  run-cong f g zero a h = refl
+  run-cong f g (suc n) a h =
+      ap (f n) (run-cong f g n a (λ i k. h i (omega arith))) ∙ h n (le-refl (suc n)) (runBelow g n a)

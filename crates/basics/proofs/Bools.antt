@@ -1,0 +1,88 @@
+-- Tests: how a Boolean is taken apart and made, and the two cases of a place below one more. Assumes nothing.
+use mathlib.Core.Path.{_≡_, refl, sym, _∙_}
+use mathlib.Core.Logic.{_⊎_, inl, inr}
+use mathlib.Core.Bool.{Bool, true, false, _&&_, _||_, true≢false, false≢true}
+use Prim.Native.Nat.{ℕ, suc, _<_}
+use native.Mathlib.Decide.{decLt, ℕ-discrete}
+use native.Mathlib.Omega.{arith}
+
+-- a test passes or fails
+pub split {ℓ} : {X : Type ℓ} (b : Bool) → (b ≡ true → X) → (b ≡ false → X) → X
+split true yes-case no-case = yes-case refl
+split false yes-case no-case = no-case refl
+
+-- no test both passes and fails
+pub clash : {b : Bool} → b ≡ true → b ≡ false → ⊥
+clash p q = true≢false (sym p ∙ q)
+
+-- what does not pass fails, and what does not fail passes
+pub false-of-not : (b : Bool) → (b ≡ true → ⊥) → b ≡ false
+false-of-not b h = split b (λ e. absurd (h e)) (λ e. e)
+
+pub true-of-not : (b : Bool) → (b ≡ false → ⊥) → b ≡ true
+true-of-not b h = split b (λ e. e) (λ e. absurd (h e))
+
+-- two tests that pass together are one
+pub same-tests : (a b : Bool) → (a ≡ true → b ≡ true) → (b ≡ true → a ≡ true) → a ≡ b
+same-tests true b f g = sym (f refl)
+same-tests false true f g = g refl
+same-tests false false f g = refl
+
+-- both of two tests
+pub and-left : (a b : Bool) → a && b ≡ true → a ≡ true
+and-left true b e = refl
+and-left false b e = e
+
+pub and-right : (a b : Bool) → a && b ≡ true → b ≡ true
+and-right true b e = e
+and-right false b e = absurd (false≢true e)
+
+pub and-both : (a b : Bool) → a ≡ true → b ≡ true → a && b ≡ true
+and-both true b p q = q
+and-both false b p q = p
+
+pub and-fails-left : (a b : Bool) → a ≡ false → a && b ≡ false
+and-fails-left true b e = absurd (true≢false e)
+and-fails-left false b e = refl
+
+pub and-fails-right : (a b : Bool) → b ≡ false → a && b ≡ false
+and-fails-right true b e = e
+and-fails-right false b e = refl
+
+-- of two tests that do not both pass, one fails
+pub and-false : (a b : Bool) → a && b ≡ false → (a ≡ false) ⊎ (b ≡ false)
+and-false true b e = inr e
+and-false false b e = inl refl
+
+-- one of two tests
+pub or-true : (a b : Bool) → a || b ≡ true → (a ≡ true) ⊎ (b ≡ true)
+or-true true b e = inl refl
+or-true false b e = inr e
+
+pub or-left : (a b : Bool) → a ≡ true → a || b ≡ true
+or-left true b e = refl
+or-left false b e = absurd (false≢true e)
+
+pub or-right : (a b : Bool) → b ≡ true → a || b ≡ true
+or-right true b e = refl
+or-right false b e = e
+
+pub or-fails : (a b : Bool) → a ≡ false → b ≡ false → a || b ≡ false
+or-fails true b p q = p
+or-fails false b p q = q
+
+pub or-false-left : (a b : Bool) → a || b ≡ false → a ≡ false
+or-false-left true b e = e
+or-false-left false b e = refl
+
+pub or-false-right : (a b : Bool) → a || b ≡ false → b ≡ false
+or-false-right true b e = absurd (true≢false e)
+or-false-right false b e = e
+
+-- a number below one more is below, or it is the last
+pub below-more {ℓ} : {X : Type ℓ} {i n : ℕ} → i < suc n → (i < n → X) → (i ≡ n → X) → X
+below-more {i} {n} h below last = elim (decLt i n) [ yes k ↦ below k | no k ↦ last (omega arith) ]
+
+-- two numbers are one or they differ
+pub equal-or-not {ℓ} : {X : Type ℓ} (a b : ℕ) → (a ≡ b → X) → ((a ≡ b → ⊥) → X) → X
+equal-or-not a b same other = elim (ℕ-discrete a b) [ yes e ↦ same e | no e ↦ other e ]

@@ -1,0 +1,9 @@
+pub mod Below
+pub mod Bools
+pub mod Bytes
+pub mod Eliminated
+pub mod Elimination
+pub mod Lists
+pub mod Says
+pub mod Search
+pub mod Walk

@@ -1,0 +1,251 @@
+-- Laws of the tests on lists: what each says of the members, how it goes over an append, and what a list that keeps a relation orders.
+-- Assumes nothing.
+use mathlib.Core.Path.{_≡_, refl, sym, _∙_, ap, ap₂, subst}
+use mathlib.Core.Logic.{_⊎_, inl, inr, ⊎-elim, _↔_}
+use mathlib.Core.Bool.{Bool, true, false, not, cond, _&&_, _||_, true≢false, false≢true, and-assoc, or-assoc}
+use mathlib.Core.List.{List, [], _∷_, _++_, List·Memᴰ, List·Memᴰ·head, List·Memᴰ·tail}
+use Prim.Native.Nat.{ℕ, suc, _<_, suc-le-suc}
+use native.Mathlib.Omega.{arith}
+use lib.Dec.{eqb}
+use borrow.Author.Tests.{eqb-true, eqb-false, eq-eqb, ne-eqb, not-true}
+use Rattle.basics.specs.Lists.{allIn, anyIn, member, distinct, keeps}
+use Rattle.basics.proofs.Bools.{clash, false-of-not, and-left, and-right, and-both, and-false, or-true, or-left, or-right, or-fails, equal-or-not}
+
+module _ {ℓ} {A : Type ℓ} (p : A → Bool) where
+  -- each member passes
+  pub all-in-at : (xs : List A) → allIn p xs ≡ true → {x : A} → List·Memᴰ x xs → p x ≡ true
+  unfolding allIn
+  all-in-at (y ∷ ys) e (List·Memᴰ·head q) = ap p q ∙ and-left (p y) (allIn p ys) e
+  all-in-at (y ∷ ys) e (List·Memᴰ·tail m) = all-in-at ys (and-right (p y) (allIn p ys) e) m
+
+  pub all-in-of : (xs : List A) → ((x : A) → List·Memᴰ x xs → p x ≡ true) → allIn p xs ≡ true
+  unfolding allIn
+  all-in-of [] h = refl
+  all-in-of (y ∷ ys) h = and-both (p y) (allIn p ys) (h y (List·Memᴰ·head refl)) (all-in-of ys (λ x m. h x (List·Memᴰ·tail m)))
+
+  pub all-in-fails : (xs : List A) {x : A} → List·Memᴰ x xs → p x ≡ false → allIn p xs ≡ false
+  all-in-fails xs m e = false-of-not (allIn p xs) (λ a. clash (all-in-at xs a m) e)
+
+  pub all-in-false : (xs : List A) → allIn p xs ≡ false → (x : A) × List·Memᴰ x xs × (p x ≡ false)
+  unfolding allIn
+  all-in-false [] e = absurd (true≢false e)
+  all-in-false (y ∷ ys) e =
+      ⊎-elim (λ f. (y, List·Memᴰ·head refl, f)) (λ f. let r = all-in-false ys f in (r .0, List·Memᴰ·tail (r .1), r .2))
+      (and-false (p y) (allIn p ys) e)
+
+  pub all-in-append : (xs ys : List A) → allIn p (xs ++ ys) ≡ allIn p xs && allIn p ys
+  unfolding allIn
+  all-in-append [] ys = refl
+  all-in-append (x ∷ xs) ys = ap (λ b. p x && b) (all-in-append xs ys) ∙ sym (and-assoc (p x) (allIn p xs) (allIn p ys))
+
+  -- some member passes
+  pub any-in-of : (xs : List A) {x : A} → List·Memᴰ x xs → p x ≡ true → anyIn p xs ≡ true
+  unfolding anyIn
+  any-in-of (y ∷ ys) (List·Memᴰ·head q) e = or-left (p y) (anyIn p ys) (sym (ap p q) ∙ e)
+  any-in-of (y ∷ ys) (List·Memᴰ·tail m) e = or-right (p y) (anyIn p ys) (any-in-of ys m e)
+
+  pub any-in-at : (xs : List A) → anyIn p xs ≡ true → (x : A) × List·Memᴰ x xs × (p x ≡ true)
+  unfolding anyIn
+  any-in-at [] e = absurd (false≢true e)
+  any-in-at (y ∷ ys) e =
+      ⊎-elim (λ t. (y, List·Memᴰ·head refl, t)) (λ t. let r = any-in-at ys t in (r .0, List·Memᴰ·tail (r .1), r .2))
+      (or-true (p y) (anyIn p ys) e)
+
+  pub any-in-fails : (xs : List A) → ((x : A) → List·Memᴰ x xs → p x ≡ false) → anyIn p xs ≡ false
+  any-in-fails xs h = false-of-not (anyIn p xs) (λ e. let r = any-in-at xs e in clash (r .2) (h (r .0) (r .1)))
+
+  pub any-in-false : (xs : List A) → anyIn p xs ≡ false → {x : A} → List·Memᴰ x xs → p x ≡ false
+  any-in-false xs e {x} m = false-of-not (p x) (λ t. clash (any-in-of xs m t) e)
+
+  pub any-in-append : (xs ys : List A) → anyIn p (xs ++ ys) ≡ anyIn p xs || anyIn p ys
+  unfolding anyIn
+  any-in-append [] ys = refl
+  any-in-append (x ∷ xs) ys = ap (λ b. p x || b) (any-in-append xs ys) ∙ sym (or-assoc (p x) (anyIn p xs) (anyIn p ys))
+
+-- tests that agree on the members give one answer
+module _ {ℓ} {A : Type ℓ} (p q : A → Bool) where
+  pub all-in-cong : (xs : List A) → ((x : A) → List·Memᴰ x xs → p x ≡ q x) → allIn p xs ≡ allIn q xs
+  unfolding allIn
+  all-in-cong [] h = refl
+  all-in-cong (x ∷ xs) h = ap₂ _&&_ (h x (List·Memᴰ·head refl)) (all-in-cong xs (λ y m. h y (List·Memᴰ·tail m)))
+
+  pub any-in-cong : (xs : List A) → ((x : A) → List·Memᴰ x xs → p x ≡ q x) → anyIn p xs ≡ anyIn q xs
+  unfolding anyIn
+  any-in-cong [] h = refl
+  any-in-cong (x ∷ xs) h = ap₂ _||_ (h x (List·Memᴰ·head refl)) (any-in-cong xs (λ y m. h y (List·Memᴰ·tail m)))
+
+module _ (k : ℕ) where
+  -- to stand in a list is to be a member
+  pub member-of : (xs : List ℕ) → List·Memᴰ k xs → member k xs ≡ true
+  unfolding member anyIn
+  member-of xs m = any-in-of (eqb k) xs m (eq-eqb k k refl)
+
+  pub member-at : (xs : List ℕ) → member k xs ≡ true → List·Memᴰ k xs
+  unfolding member anyIn
+  member-at (x ∷ xs) e = ⊎-elim (λ t. List·Memᴰ·head (eqb-true k x t)) (λ t. List·Memᴰ·tail (member-at xs t)) (or-true (eqb k x) (member k xs) e)
+  member-at [] e = absurd (false≢true e)
+
+  pub member-iff : (xs : List ℕ) → (member k xs ≡ true) ↔ List·Memᴰ k xs
+  member-iff xs = (member-at xs, member-of xs)
+
+  pub member-append : (xs ys : List ℕ) → member k (xs ++ ys) ≡ member k xs || member k ys
+  unfolding member anyIn
+  member-append = any-in-append (eqb k)
+
+  -- in a list with a head
+  pub member-nil : member k [] ≡ false
+  unfolding member anyIn
+  member-nil = refl
+
+  pub member-cons : (x : ℕ) (xs : List ℕ) → member k (x ∷ xs) ≡ eqb k x || member k xs
+  unfolding member anyIn
+  member-cons x xs = refl
+
+  pub member-head : (x : ℕ) (xs : List ℕ) → k ≡ x → member k (x ∷ xs) ≡ true
+  member-head x xs q = member-cons x xs ∙ or-left (eqb k x) (member k xs) (eq-eqb k x q)
+
+  pub member-tail : (x : ℕ) (xs : List ℕ) → member k xs ≡ true → member k (x ∷ xs) ≡ true
+  member-tail x xs e = member-cons x xs ∙ or-right (eqb k x) (member k xs) e
+
+  pub member-cases : (x : ℕ) (xs : List ℕ) → member k (x ∷ xs) ≡ true → (k ≡ x) ⊎ (member k xs ≡ true)
+  member-cases x xs e = ⊎-elim (λ t. inl (eqb-true k x t)) inr (or-true (eqb k x) (member k xs) (sym (member-cons x xs) ∙ e))
+
+  pub member-rest : (x : ℕ) (xs : List ℕ) → (k ≡ x → ⊥) → member k (x ∷ xs) ≡ true → member k xs ≡ true
+  member-rest x xs d e = ⊎-elim (λ q. absurd (d q)) (λ i. i) (member-cases x xs e)
+
+  pub member-neither : (x : ℕ) (xs : List ℕ) → (k ≡ x → ⊥) → member k xs ≡ false → member k (x ∷ xs) ≡ false
+  member-neither x xs q e = member-cons x xs ∙ or-fails (eqb k x) (member k xs) (ne-eqb k x q) e
+
+-- the place where a number first stands in a list
+unfoldable pub place : ℕ → List ℕ → ℕ
+place k [] = 0
+place k (x ∷ xs) = cond (eqb k x) 0 (suc (place k xs))
+
+pub place-head : (k x : ℕ) (xs : List ℕ) → k ≡ x → place k (x ∷ xs) ≡ 0
+unfolding place
+place-head k x xs q = rw (eq-eqb k x q)
+
+pub place-tail : (k x : ℕ) (xs : List ℕ) → (k ≡ x → ⊥) → place k (x ∷ xs) ≡ suc (place k xs)
+unfolding place
+place-tail k x xs q = rw (ne-eqb k x q)
+
+module _ (before : ℕ → ℕ → Bool) where
+  -- a list keeps a relation if its tail does, and nobody in the tail stands before the head
+  pub keeps-nil : keeps before [] ≡ true
+  unfolding keeps
+  keeps-nil = refl
+
+  pub keeps-cons : (m : ℕ) (xs : List ℕ) → ((k : ℕ) → member k xs ≡ true → before k m ≡ false) → keeps before xs ≡ true
+      → keeps before (m ∷ xs) ≡ true
+  unfolding keeps
+  keeps-cons m xs h e = rw (any-in-fails (λ k. before k m) xs (λ k i. h k (member-of k xs i))) e
+
+  pub keeps-head : (m : ℕ) (xs : List ℕ) → keeps before (m ∷ xs) ≡ true → (k : ℕ) → member k xs ≡ true → before k m ≡ false
+  unfolding keeps
+  keeps-head m xs e k i =
+      any-in-false (λ j. before j m) xs (not-true (anyIn (λ j. before j m) xs) (and-left (not (anyIn (λ j. before j m) xs)) (keeps before xs) e)) (member-at k xs i)
+
+  pub keeps-tail : (m : ℕ) (xs : List ℕ) → keeps before (m ∷ xs) ≡ true → keeps before xs ≡ true
+  unfolding keeps
+  keeps-tail m xs e = and-right (not (anyIn (λ k. before k m) xs)) (keeps before xs) e
+
+  -- of two parts each keeps it, and nobody in the second stands before one in the first
+  pub keeps-first : (xs ys : List ℕ) → keeps before (xs ++ ys) ≡ true → keeps before xs ≡ true
+  keeps-first [] ys e = keeps-nil
+  keeps-first (x ∷ xs) ys e =
+      keeps-cons x xs (λ k i. keeps-head x (xs ++ ys) e k (member-append k xs ys ∙ or-left (member k xs) (member k ys) i))
+      (keeps-first xs ys (keeps-tail x (xs ++ ys) e))
+
+  pub keeps-second : (xs ys : List ℕ) → keeps before (xs ++ ys) ≡ true → keeps before ys ≡ true
+  keeps-second [] ys e = e
+  keeps-second (x ∷ xs) ys e = keeps-second xs ys (keeps-tail x (xs ++ ys) e)
+
+  pub keeps-across : (xs ys : List ℕ) → keeps before (xs ++ ys) ≡ true → (k m : ℕ) → member m xs ≡ true → member k ys ≡ true → before k m ≡ false
+  keeps-across [] ys e k m i j = absurd (clash i (member-nil m))
+  keeps-across (x ∷ xs) ys e k m i j =
+      ⊎-elim
+      (λ q. ap (before k) q ∙ keeps-head x (xs ++ ys) e k (member-append k xs ys ∙ or-right (member k xs) (member k ys) j))
+      (λ i′. keeps-across xs ys (keeps-tail x (xs ++ ys) e) k m i′ j)
+      (member-cases m x xs i)
+
+  pub keeps-append : (xs ys : List ℕ) → keeps before xs ≡ true → keeps before ys ≡ true
+      → ((k m : ℕ) → member m xs ≡ true → member k ys ≡ true → before k m ≡ false) → keeps before (xs ++ ys) ≡ true
+  keeps-append [] ys a b h = b
+  keeps-append (x ∷ xs) ys a b h =
+      keeps-cons x (xs ++ ys)
+      (λ k i. ⊎-elim (keeps-head x xs a k) (h k x (member-head x x xs refl)) (or-true (member k xs) (member k ys) (sym (member-append k xs ys) ∙ i)))
+      (keeps-append xs ys (keeps-tail x xs a) b (λ k m i. h k m (member-tail m x xs i)))
+
+  -- nobody listed after m stands before it
+  pub keeps-split : (xs ys : List ℕ) (m : ℕ) → keeps before (xs ++ (m ∷ ys)) ≡ true → (k : ℕ) → member k ys ≡ true → before k m ≡ false
+  keeps-split xs ys m e = keeps-head m ys (keeps-second xs (m ∷ ys) e)
+
+  -- of two that are listed, the one that stands before the other comes first
+  pub keeps-places : (xs : List ℕ) → keeps before xs ≡ true → (k m : ℕ) → member k xs ≡ true → member m xs ≡ true → before k m ≡ true
+      → (k ≡ m → ⊥) → place k xs < place m xs
+  keeps-places [] e k m i j b d = absurd (clash i (member-nil k))
+  keeps-places (x ∷ xs) e k m i j b d =
+      equal-or-not k x
+      (λ q. rw (place-head k x xs q, place-tail m x xs (λ r. d (q ∙ sym r))) (omega arith))
+      (λ q.
+      let i′ = member-rest k x xs q i in
+      equal-or-not m x (λ r. absurd (clash b (ap (before k) r ∙ keeps-head x xs e k i′)))
+      (λ r. rw (place-tail k x xs q, place-tail m x xs r) (suc-le-suc (keeps-places xs (keeps-tail x xs e) k m i′ (member-rest m x xs r j) b d))))
+
+-- relations that agree on the members are kept alike
+pub keeps-cong : (before before′ : ℕ → ℕ → Bool) (xs : List ℕ)
+    → ((k m : ℕ) → member k xs ≡ true → member m xs ≡ true → before k m ≡ before′ k m) → keeps before xs ≡ keeps before′ xs
+unfolding keeps
+keeps-cong before before′ [] h = refl
+keeps-cong before before′ (x ∷ xs) h =
+    ap₂ (λ a b. not a && b)
+    (any-in-cong (λ k. before k x) (λ k. before′ k x) xs (λ k i. h k x (member-tail k x xs (member-of k xs i)) (member-head x x xs refl)))
+    (keeps-cong before before′ xs (λ k m i j. h k m (member-tail k x xs i) (member-tail m x xs j)))
+
+-- no number stands in the list twice: the list keeps equality
+distinct-is-keeps : (xs : List ℕ) → distinct xs ≡ keeps (λ k m. eqb m k) xs
+unfolding distinct keeps member
+distinct-is-keeps [] = refl
+distinct-is-keeps (x ∷ xs) = ap (λ b. not (member x xs) && b) (distinct-is-keeps xs)
+
+-- the head does not stand in the tail
+pub distinct-nil : distinct [] ≡ true
+unfolding distinct
+distinct-nil = refl
+
+pub distinct-cons : (x : ℕ) (xs : List ℕ) → member x xs ≡ false → distinct xs ≡ true → distinct (x ∷ xs) ≡ true
+unfolding distinct
+distinct-cons x xs h e = rw h e
+
+pub distinct-head : (x : ℕ) (xs : List ℕ) → distinct (x ∷ xs) ≡ true → member x xs ≡ false
+unfolding distinct
+distinct-head x xs e = not-true (member x xs) (and-left (not (member x xs)) (distinct xs) e)
+
+pub distinct-tail : (x : ℕ) (xs : List ℕ) → distinct (x ∷ xs) ≡ true → distinct xs ≡ true
+unfolding distinct
+distinct-tail x xs e = and-right (not (member x xs)) (distinct xs) e
+
+-- of two parts each is distinct, and they share nobody
+module _ (xs ys : List ℕ) where
+  kept : distinct (xs ++ ys) ≡ true → keeps (λ k m. eqb m k) (xs ++ ys) ≡ true
+  kept e = sym (distinct-is-keeps (xs ++ ys)) ∙ e
+
+  pub distinct-first : distinct (xs ++ ys) ≡ true → distinct xs ≡ true
+  distinct-first e = distinct-is-keeps xs ∙ keeps-first (λ k m. eqb m k) xs ys (kept e)
+
+  pub distinct-second : distinct (xs ++ ys) ≡ true → distinct ys ≡ true
+  distinct-second e = distinct-is-keeps ys ∙ keeps-second (λ k m. eqb m k) xs ys (kept e)
+
+  pub distinct-across : distinct (xs ++ ys) ≡ true → (k : ℕ) → member k xs ≡ true → member k ys ≡ false
+  distinct-across e k i =
+      false-of-not (member k ys) (λ j. eqb-false k k (keeps-across (λ a b. eqb b a) xs ys (kept e) k k i j) refl)
+
+  pub distinct-append : distinct xs ≡ true → distinct ys ≡ true → ((k : ℕ) → member k xs ≡ true → member k ys ≡ false) → distinct (xs ++ ys) ≡ true
+  distinct-append a b h =
+      distinct-is-keeps (xs ++ ys)
+      ∙ keeps-append (λ k m. eqb m k) xs ys (sym (distinct-is-keeps xs) ∙ a) (sym (distinct-is-keeps ys) ∙ b)
+      (λ k m i j. ne-eqb m k (λ q. clash j (h k (subst (λ (n : ℕ). member n xs ≡ true) q i))))
+
+-- nobody listed after m is m
+pub distinct-split : (xs ys : List ℕ) (m : ℕ) → distinct (xs ++ (m ∷ ys)) ≡ true → member m ys ≡ false
+distinct-split xs ys m e = distinct-head m ys (distinct-second xs (m ∷ ys) e)

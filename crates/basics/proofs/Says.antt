@@ -1,0 +1,43 @@
+-- What a test says: a passing test on one side, the statement that it tests on the other. Assumes nothing.
+use Prim.Native.Nat.{ℕ, _≤_, _<_}
+use mathlib.Core.Path.{_≡_, refl}
+use mathlib.Core.Logic.{_↔_, _⊎_, inl, inr, ⊎-elim}
+use mathlib.Core.Bool.{Bool, true, false, not, cond, _&&_, _||_, true≢false, false≢true}
+use lib.Dec.{leb, eqb}
+use borrow.Author.Tests.{eqb-true, eq-eqb, leb-true, le-leb}
+use Rattle.basics.specs.Below.{allBelow}
+use Rattle.basics.proofs.Bools.{and-left, and-right, and-both, or-true, or-left, or-right}
+use Rattle.basics.proofs.Below.{all-at, all-of}
+
+-- comparisons of numbers
+pub eqb-says : (a b : ℕ) → (eqb a b ≡ true) ↔ (a ≡ b)
+eqb-says a b = (eqb-true a b, eq-eqb a b)
+
+pub leb-says : (a b : ℕ) → (leb a b ≡ true) ↔ (a ≤ b)
+leb-says a b = (leb-true a b, le-leb a b)
+
+-- a negated test, plainly and by what the test says
+pub not-says : (t : Bool) → (not t ≡ true) ↔ (t ≡ false)
+not-says true = (λ e. absurd (false≢true e), λ e. absurd (true≢false e))
+not-says false = (λ e. refl, λ e. refl)
+
+pub not-says-not : (t : Bool) {P : Type 0} → (t ≡ true) ↔ P → (not t ≡ true) ↔ (P → ⊥)
+not-says-not true s = (λ e. absurd (false≢true e), λ f. absurd (f (s .0 refl)))
+not-says-not false s = (λ e x. false≢true (s .1 x), λ f. refl)
+
+-- both of two tests, and one of two
+pub and-says : {s t : Bool} {P Q : Type 0} → (s ≡ true) ↔ P → (t ≡ true) ↔ Q → (s && t ≡ true) ↔ (P × Q)
+and-says {s} {t} p q = (λ e. (p .0 (and-left s t e), q .0 (and-right s t e)), λ x. and-both s t (p .1 (x .0)) (q .1 (x .1)))
+
+pub or-says : {s t : Bool} {P Q : Type 0} → (s ≡ true) ↔ P → (t ≡ true) ↔ Q → (s || t ≡ true) ↔ (P ⊎ Q)
+or-says {s} {t} p q =
+    (λ e. ⊎-elim (λ x. inl (p .0 x)) (λ y. inr (q .0 y)) (or-true s t e), ⊎-elim (λ x. or-left s t (p .1 x)) (λ y. or-right s t (q .1 y)))
+
+-- one test or another, by a first
+pub cond-says : (t : Bool) {u v : Bool} {P : Type 0} → (t ≡ true → (u ≡ true) ↔ P) → (t ≡ false → (v ≡ true) ↔ P) → (cond t u v ≡ true) ↔ P
+cond-says true passes fails = passes refl
+cond-says false passes fails = fails refl
+
+-- a test of all numbers below a limit
+pub all-says : (p : ℕ → Bool) (n : ℕ) {P : ℕ → Type 0} → ((i : ℕ) → i < n → (p i ≡ true) ↔ P i) → (allBelow p n ≡ true) ↔ ((i : ℕ) → i < n → P i)
+all-says p n s = (λ e i h. s i h .0 (all-at p n e i h), λ f. all-of p n (λ i h. s i h .1 (f i h)))

@@ -1,0 +1,6 @@
+pub mod Below
+pub mod Bytes
+pub mod Elimination
+pub mod Lists
+pub mod Text
+pub mod Walk

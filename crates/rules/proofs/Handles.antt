@@ -1,0 +1,110 @@
+-- Laws of handles: a handle tells its place and turn, and the gate says the same as the tests "stale" and "ended". Assumes nothing.
+use Prim.Native.Nat.{ℕ, zero, suc, _≤_, _<_}
+use mathlib.Core.Path.{_≡_, refl}
+use mathlib.Core.Logic.{_↔_, _≢_}
+use mathlib.Core.Bool.{Bool, true, false, cond, false≢true, or-false}
+use lib.Dec.{eqb}
+use native.Mathlib.Omega.{arith}
+use Rattle.rules.specs.Sizes.{Size, turns, handles, handles-a-turn}
+use Rattle.rules.specs.Books.{Books, place-at, is-free, is-committed, next-turn}
+use Rattle.rules.specs.Handles.{handle-of, place-of, turn-of, out-of-range, turn-agrees, is-stale, is-ended, Caller, reads, writes, commits, gives-up, orders, gate}
+
+-- the place and the turn that were put into a handle come out again
+pub place-of-handle-of : (i t : ℕ) → i < handles-a-turn → place-of (handle-of i t) ≡ i
+place-of-handle-of i t h = omega arith
+
+pub turn-of-handle-of : (i t : ℕ) → i < handles-a-turn → turn-of (handle-of i t) ≡ t
+turn-of-handle-of i t h = omega arith
+
+-- a place and a turn that exist make a handle below 2,097,152
+pub handle-of-below : (i t : ℕ) → i < handles-a-turn → t < turns → handle-of i t < handles
+handle-of-below i t h k = omega arith
+
+-- a handle is its place and its turn
+pub handle-of-parts : (h : ℕ) → handle-of (place-of h) (turn-of h) ≡ h
+handle-of-parts h = omega arith
+
+-- a handle names one of 32 places, and a handle below 2,097,152 one of 65,536 turns
+pub place-of-below : (h : ℕ) → place-of h < handles-a-turn
+place-of-below h = omega arith
+
+pub turn-of-below : (h : ℕ) → h < handles → turn-of h < turns
+turn-of-below h k = omega arith
+
+-- 2,097,151, the greatest handle, names place 31 and turn 65,535
+pub greatest-handle : (place-of 2097151 ≡ 31) × (turn-of 2097151 ≡ 65535)
+greatest-handle = (refl, refl)
+
+-- 2,097,152 is stale, whatever the books
+pub past-handles-stale : (z : Size) (b : Books) → is-stale z b 2097152 ≡ true
+unfolding is-stale out-of-range
+past-handles-stale z b = refl
+
+-- the turn after 65,535 is 0
+pub last-turn-wraps : next-turn 65535 ≡ 0
+last-turn-wraps = refl
+
+-- ---- the gate
+
+-- one of two numbers is the first exactly if the test passes, where the second is another
+picks-first : (t : Bool) {a x : ℕ} → x ≢ a → (cond t a x ≡ a) ↔ (t ≡ true)
+picks-first true h = (λ e. refl, λ e. refl)
+picks-first false h = (λ e. absurd (h e), λ e. absurd (false≢true e))
+
+-- one of two numbers that are not a third is not the third
+picks-neither : (t : Bool) {a x y : ℕ} → x ≢ a → y ≢ a → cond t x y ≢ a
+picks-neither true h k = h
+picks-neither false h k = k
+
+-- the gate says 3 exactly if the place is free
+gate-reads-free : (s : ℕ) → (gate reads s ≡ 3) ↔ (eqb s 0 ≡ true)
+unfolding gate
+gate-reads-free s = picks-first (eqb s 0) (picks-neither (eqb s 1) (λ e. omega arith) (λ e. omega arith))
+
+gate-free : (c : Caller) (s : ℕ) → (gate c s ≡ 3) ↔ (eqb s 0 ≡ true)
+unfolding gate
+gate-free reads s = gate-reads-free s
+gate-free writes s = gate-reads-free s
+gate-free commits s = gate-reads-free s
+gate-free gives-up s = gate-reads-free s
+gate-free orders s = picks-first (eqb s 0) (λ e. omega arith)
+
+-- for every call but order there is one gate
+gate-same : (c : Caller) → c ≢ orders → (s : ℕ) → gate c s ≡ gate reads s
+unfolding gate
+gate-same reads other s = refl
+gate-same writes other s = refl
+gate-same commits other s = refl
+gate-same gives-up other s = refl
+gate-same orders other s = absurd (other refl)
+
+-- it says 4 exactly if the place is committed
+gate-committed : (s : ℕ) → s ≤ 2 → (gate reads s ≡ 4) ↔ (eqb s 2 ≡ true)
+unfolding gate
+gate-committed zero k = (λ e. absurd (omega arith), λ e. absurd (false≢true e))
+gate-committed (suc zero) k = (λ e. absurd (omega arith), λ e. absurd (false≢true e))
+gate-committed (suc (suc zero)) k = (λ e. refl, λ e. refl)
+gate-committed (suc (suc (suc s))) k = absurd (omega arith)
+
+module _ (z : Size) (b : Books) (h : ℕ) (near : out-of-range z h ≡ false) (agrees : turn-agrees b h ≡ true) where
+  -- a handle in range whose turn agrees is stale exactly if its place is free, and ended exactly if its place is committed
+  pub stale-is-free : is-stale z b h ≡ is-free (place-at b (place-of h))
+  unfolding is-stale
+  stale-is-free = rw (near, agrees) (or-false (is-free (place-at b (place-of h))))
+
+  pub ended-is-committed : is-ended z b h ≡ is-committed (place-at b (place-of h))
+  unfolding is-ended
+  ended-is-committed = rw (near, agrees)
+
+  -- the gate says 3 exactly if the handle is stale
+  pub gate-stale : (c : Caller) → (gate c (place-at b (place-of h) .status) ≡ 3) ↔ (is-stale z b h ≡ true)
+  gate-stale c = rw stale-is-free (gate-free c (place-at b (place-of h) .status))
+
+  -- for every call but order it says 4 exactly if the transaction has ended
+  pub gate-ended : (c : Caller) → c ≢ orders → place-at b (place-of h) .status ≤ 2 → (gate c (place-at b (place-of h) .status) ≡ 4) ↔ (is-ended z b h ≡ true)
+  gate-ended c other known = rw (ended-is-committed, gate-same c other) (gate-committed (place-at b (place-of h) .status) known)
+
+-- an order is never told that the transaction has ended
+pub gate-orders : (s : ℕ) → gate orders s ≢ 4
+unfolding gate
+gate-orders s = picks-neither (eqb s 0) (λ e. omega arith) (λ e. omega arith)

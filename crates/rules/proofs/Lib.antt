@@ -1,0 +1,9 @@
+pub mod CaseA
+pub mod Conflict
+pub mod Handles
+pub mod Judging
+pub mod Reasons
+pub mod Shape
+pub mod Sound
+pub mod SoundKept
+pub mod Trials

@@ -1,0 +1,70 @@
+-- Opened books and closed books are sound, whatever the size. Assumes nothing.
+use Prim.Native.Nat.{ℕ, zero, suc, _≤_, _<_}
+use mathlib.Core.Path.{_≡_, refl, ap}
+use mathlib.Core.Bool.{true, false}
+use mathlib.Core.List.{List, [], _∷_, map}
+use lib.ListN.{getD, replicate}
+use lib.Dec.{eqb}
+use native.Mathlib.Omega.{arith}
+use borrow.Author.Tests.{eqb-true}
+use Rattle.basics.proofs.Below.{count-nobody}
+use Rattle.rules.specs.declared.Place.{Place}
+use Rattle.rules.specs.Sizes.{Size, width, most-records}
+use Rattle.rules.specs.Books.{Books, place-at, no-place, is-live, freed, opened, closed, live-count, room-taken}
+use Rattle.rules.specs.Sound.{sound, Sound}
+use Rattle.rules.proofs.Sound.{Clear, clear-place, held-status, sound-says}
+
+-- a free place with zero in all but its turn
+abbrev pub Blank : Size → Place → Type 0
+Blank z p = (p .status ≡ 0) × Clear z p
+
+-- books whose places are all blank, with room for their records, are sound
+module _ (z : Size) (b : Books) (blank : (i : ℕ) → i < z .places → Blank z (place-at b i)) where
+  blank-no-live : live-count z b ≡ 0
+  unfolding live-count
+  blank-no-live = count-nobody (λ i. is-live (place-at b i)) (z .places) (λ i h. ap (λ (s : ℕ). eqb s 1) (blank i h .0))
+
+  pub blank-sound : b .records ≤ most-records → Sound z b
+  unfolding room-taken
+  blank-sound room =
+      record {
+        room = omega (arith, blank-no-live);
+        each = λ i h. clear-place z (b .records) (place-at b i) (blank i h .0) (blank i h .1);
+        begins-differ = λ i j h k p q e. omega (arith, blank i h .0, held-status (place-at b i) p);
+        commits-differ = λ i j h k p q e. omega (arith, blank i h .0, eqb-true (place-at b i .status) 2 p);
+      }
+
+-- ---- freed places
+
+-- an element of n times a is a, and so is what stands past the end
+getD-replicate-same {ℓ} : {A : Type ℓ} (n i : ℕ) (a : A) → getD (replicate n a) i a ≡ a
+getD-replicate-same zero i a = refl
+getD-replicate-same (suc n) zero a = refl
+getD-replicate-same (suc n) (suc i) a = getD-replicate-same n i a
+
+-- what holds of each image, and of what stands past the end, holds of each element of a mapped list
+getD-map-all {ℓ} : {A B : Type ℓ} (P : B → Type 0) (f : A → B) (l : List A) (i : ℕ) (d : B) → P d → ((a : A) → P (f a)) → P (getD (map f l) i d)
+getD-map-all P f [] i d p q = p
+getD-map-all P f (x ∷ xs) zero d p q = q x
+getD-map-all P f (x ∷ xs) (suc i) d p q = getD-map-all P f xs i d p q
+
+-- no place, and a freed place, are blank
+pub blank-no-place : (z : Size) → Blank z no-place
+blank-no-place z = (refl, (refl, (refl, λ c h. (refl, (refl, refl)))))
+
+pub blank-freed : (z : Size) (p : Place) → Blank z (freed p)
+unfolding freed
+blank-freed z p =
+    (refl, (refl, (refl, λ c h. (getD-replicate-same width c false, (getD-replicate-same width c 0, getD-replicate-same width c 0)))))
+
+-- ---- opened and closed books
+
+pub sound-closed : (z : Size) (b : Books) → sound z (closed b) ≡ true
+unfolding closed
+sound-closed z b =
+    sound-says z (closed b) .1
+    (blank-sound z (closed b) (λ i h. getD-map-all (Blank z) freed (b .places) i no-place (blank-no-place z) (blank-freed z)) (omega arith))
+
+pub sound-opened : (z : Size) → sound z opened ≡ true
+unfolding opened closed
+sound-opened z = sound-closed z (record { records = 0; places = replicate width no-place })

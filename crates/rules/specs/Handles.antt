@@ -1,0 +1,46 @@
+-- Document 01, "Sizes" and "Step rules": a handle is place + 32 × turn, and a call on a handle is looked up by place status.
+use Prim.Native.Nat.{ℕ, _+_, _*_, _/_, _%_}
+use mathlib.Core.Bool.{Bool, not, cond, _&&_, _||_}
+use lib.Dec.{leb, eqb}
+use Rattle.rules.specs.Sizes.{Size, handles, handles-a-turn}
+use Rattle.rules.specs.Books.{Books, place-at, is-free, is-committed}
+
+-- a handle is place + 32 × turn
+abbrev pub handle-of : ℕ → ℕ → ℕ
+handle-of i turn = i + handles-a-turn * turn
+
+-- the place that a handle names
+abbrev pub place-of : ℕ → ℕ
+place-of h = h % handles-a-turn
+
+-- the turn that a handle names
+abbrev pub turn-of : ℕ → ℕ
+turn-of h = h / handles-a-turn
+
+-- no handle at all: 2,097,152 or more, or of a place that the controller lacks
+unfoldable pub out-of-range : Size → ℕ → Bool
+out-of-range z h = leb handles h || leb (z .places) (place-of h)
+
+-- the turn agrees with the place's
+unfoldable pub turn-agrees : Books → ℕ → Bool
+turn-agrees b h = eqb (place-at b (place-of h) .turn) (turn-of h)
+
+-- 3: handle out of range, place free, or turn differs
+unfoldable pub is-stale : Size → Books → ℕ → Bool
+is-stale z b h = out-of-range z h || (is-free (place-at b (place-of h)) || not (turn-agrees b h))
+
+-- 4: turn agrees, place committed (for every call but order)
+unfoldable pub is-ended : Size → Books → ℕ → Bool
+is-ended z b h = not (out-of-range z h) && (turn-agrees b h && is-committed (place-at b (place-of h)))
+
+-- the five calls that take a handle to a transaction
+pub data Caller : Type 0 where
+  reads writes commits gives-up orders : Caller
+
+-- by place status: free, always 3; live, goes on (0); committed, 4 for read, write, commit and give up, while order goes on
+unfoldable pub gate : Caller → ℕ → ℕ
+gate reads status = cond (eqb status 0) 3 (cond (eqb status 1) 0 4)
+gate writes status = cond (eqb status 0) 3 (cond (eqb status 1) 0 4)
+gate commits status = cond (eqb status 0) 3 (cond (eqb status 1) 0 4)
+gate gives-up status = cond (eqb status 0) 3 (cond (eqb status 1) 0 4)
+gate orders status = cond (eqb status 0) 3 0

@@ -1,0 +1,72 @@
+-- What is proved of the rules: the types of the theorems, to be read without their proofs.
+use mathlib.Core.Path.{_≡_}
+use mathlib.Core.Logic.{_↔_, _≢_}
+use Prim.Native.Nat.{ℕ, _<_}
+use mathlib.Core.Bool.{Bool, true, false}
+use mathlib.Core.List.{List}
+use Rattle.basics.specs.Lists.{member, distinct, keeps}
+use Rattle.basics.specs.Elimination.{TakesLowest}
+use Rattle.rules.specs.Sizes.{Size, log-bytes}
+use Rattle.rules.specs.Books.{Books, place-at, is-held, wrote}
+use Rattle.rules.specs.Handles.{place-of}
+use Rattle.rules.specs.Sound.{sound, Sound}
+use Rattle.rules.specs.Judging.{stands-before, company, has-cycle, HasCycle, given-places}
+use Rattle.rules.specs.Numbers.{granted, conflict, first-reason}
+use Rattle.rules.specs.Daylog.{read-conflict-kind, commit-conflict-kind}
+use Rattle.rules.specs.State.{Outcome, refused}
+use Rattle.rules.specs.Layout.{well-laid-out, WellLaidOut}
+use Rattle.rules.specs.Steps.{read-reasons, read-books, commit-reasons, commit-books, turned-back}
+use Rattle.rules.specs.Run.{Call, Read, Commit, Machine, outcome, after-call}
+
+-- the test of soundness says what the clauses say
+abbrev pub SoundnessSays : Type 0
+SoundnessSays = (z : Size) (b : Books) → (sound z b ≡ true) ↔ Sound z b
+
+-- the walk over a log says what the layout rules say
+abbrev pub LayoutSays : Type 0
+LayoutSays = (z : Size) (log : List ℕ) → (well-laid-out z log ≡ true) ↔ WellLaidOut z log
+
+-- two results of a call are equal
+abbrev pub ResultsUnique : Type 0
+ResultsUnique = (z : Size) (c : Call) (m : Machine) (one other : Outcome) → one ≡ outcome z c m → other ≡ outcome z c m → one ≡ other
+
+-- a refusal other than 9 answers its number and nothing else, and changes nothing
+abbrev pub RefusalsChangeNothing : Type 0
+RefusalsChangeNothing = (z : Size) (c : Call) (m : Machine) → let o = outcome z c m in o .number ≢ granted → o .number ≢ conflict → (o ≡ refused (o .number) (m .state)) × (after-call m o ≡ m)
+
+-- a read meets Conflict exactly if it meets none of 1 to 7, its cell is not written, and with itself counted as granted the pairs contain
+-- a cycle; it then frees the place and adds one record
+pub record ReadConflict (z : Size) (m : Machine) (h c : ℕ) : Type 0 where
+  pub exactly : (outcome z (Read h c) m .number ≡ conflict) ↔ ((first-reason (read-reasons z log-bytes (m .state) h c) ≡ granted) × (wrote (place-at (m .state .books) (place-of h)) c ≡ false) × HasCycle z (read-books z (m .state .books) (place-of h) c) (place-of h))
+  pub turns-back : outcome z (Read h c) m .number ≡ conflict → outcome z (Read h c) m ≡ turned-back (m .state) read-conflict-kind (place-of h) c
+
+-- a commit meets Conflict exactly if it meets none of 1 to 4 and, with itself counted as granted, the pairs contain a cycle
+pub record CommitConflict (z : Size) (m : Machine) (h : ℕ) : Type 0 where
+  pub exactly : (outcome z (Commit h) m .number ≡ conflict) ↔ ((first-reason (commit-reasons z log-bytes (m .state) h) ≡ granted) × HasCycle z (commit-books z (m .state .books) (place-of h)) (place-of h))
+  pub turns-back : outcome z (Commit h) m .number ≡ conflict → outcome z (Commit h) m ≡ turned-back (m .state) commit-conflict-kind (place-of h) 0
+
+pub record Conflicts : Type 0 where
+  pub at-read : (z : Size) (m : Machine) (h c : ℕ) → ReadConflict z m h c
+  pub at-commit : (z : Size) (m : Machine) (h : ℕ) → CommitConflict z m h
+
+-- the list takes, again and again, among those of the company with nobody left before them, the one with the lowest begin record
+abbrev pub TakesLowestBegin : Size → Books → ℕ → List ℕ → Type 0
+TakesLowestBegin z b i = TakesLowest (z .places) (stands-before z b) (λ k. place-at b k .begin) (company z b i)
+
+-- the given order of the transaction at place i
+pub record GivenOrder (z : Size) (b : Books) (i : ℕ) : Type 0 where
+  -- the test says that the pairs contain a cycle
+  pub cycle-told : (has-cycle z b i ≡ true) ↔ HasCycle z b i
+  -- it gives everybody exactly if there is no cycle
+  pub everybody : (HasCycle z b i → ⊥) ↔ ((k : ℕ) → k < z .places → company z b i k ≡ true → member k (given-places z b i) ≡ true)
+  -- it gives nobody else, and nobody twice
+  pub nobody-else : (k : ℕ) → member k (given-places z b i) ≡ true → (k < z .places) × (company z b i k ≡ true)
+  pub nobody-twice : distinct (given-places z b i) ≡ true
+  -- it keeps every pair
+  pub pairs-kept : keeps (stands-before z b) (given-places z b i) ≡ true
+  -- it takes the lowest begin record each time, and in sound books is the only one that does
+  pub takes-lowest : TakesLowestBegin z b i (given-places z b i)
+  pub only-one : Sound z b → i < z .places → is-held (place-at b i) ≡ true → (order : List ℕ) → TakesLowestBegin z b i order → order ≡ given-places z b i
+
+abbrev pub GivenOrders : Type 0
+GivenOrders = (z : Size) (b : Books) (i : ℕ) → GivenOrder z b i

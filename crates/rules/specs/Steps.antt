@@ -1,0 +1,250 @@
+-- Document 01, "Step rules" and "Numbers given back": each call's reasons in the order of their numbers, and what it does if none applies.
+-- `log` and `buffer` are the lengths of the lent log and order buffer.
+use Prim.Native.Nat.{ℕ, _+_, _*_}
+use mathlib.Core.Bool.{Bool, not, cond, _||_}
+use mathlib.Core.List.{List, [], _∷_, _++_}
+use lib.ListN.{length}
+use lib.Dec.{ltb, leb, eqb}
+use Rattle.basics.specs.Below.{anyBelow}
+use Rattle.rules.specs.declared.Place.{Place}
+use Rattle.rules.specs.declared.Record.{Record}
+use Rattle.rules.specs.Sizes.{Size, cell-bytes, table-bytes, drafts-bytes, log-bytes, order-numbers, most-records}
+use Rattle.rules.specs.Books.{Books, place-at, is-live, wrote, freed, begun, posted, marked, read-marked, sealed, with-place, with-record, opened, closed, lowest-free, no-free, room-taken}
+use Rattle.rules.specs.Handles.{handle-of, place-of, is-stale, is-ended}
+use Rattle.rules.specs.Sound.{sound}
+use Rattle.rules.specs.Judging.{has-cycle, given-order}
+use Rattle.rules.specs.Numbers.{granted, lent, unsound, stale, ended, no-cell, full, log-full, busy, conflict, Reason, _if_, wrong}
+use Rattle.rules.specs.Cells.{cell-of, with-cell, draft-of, with-draft, laid-over}
+use Rattle.rules.specs.Daylog.{begin-kind, judged-read-kind, own-read-kind, write-kind, commit-kind, give-up-kind, read-conflict-kind, commit-conflict-kind, post-kind, no-value}
+use Rattle.rules.specs.State.{State, Shown, empty, Outcome, nothing, closes, opens, unless-refused, refused, recorded, shown-draft, shown-cell}
+
+-- the state with other books
+abbrev pub with-books : State → Books → State
+with-books s b = record { books = b; table = s .table; drafts = s .drafts }
+
+-- the record that a call adds has this number
+abbrev pub number-of : Books → ℕ
+number-of b = b .records + 1
+
+-- a record of a kind at a place, with the place's turn
+abbrev pub record-at : ℕ → ℕ → Place → ℕ → List ℕ → Record
+record-at kind i p c value = record { kind = kind; place = i; cell = c; turn = p .turn; value = value }
+
+-- ---- reasons that several calls share
+
+-- 3 and 4: the handle
+unfoldable pub handle-reasons : Size → Books → ℕ → List Reason
+handle-reasons z b h = (stale if is-stale z b h) ∷ (ended if is-ended z b h) ∷ []
+
+-- 5: cell 32 or more
+unfoldable pub cell-reason : Size → ℕ → Reason
+cell-reason z c = no-cell if leb (z .cells) c
+
+-- 7: records after the call plus live ones after it would pass 4,000, with so many more of both than now
+unfoldable pub room-reason : Size → Books → ℕ → Reason
+room-reason z b more = log-full if ltb most-records (room-taken z b + more)
+
+-- ---- Conflict
+
+-- Conflict ends the caller's transaction, frees its place and adds one record
+unfoldable pub turned-back : State → ℕ → ℕ → ℕ → Outcome
+turned-back s kind i c =
+    let p = place-at (s .books) i in
+    recorded conflict 0 (with-books s (with-place (s .books) i (freed p))) (record-at kind i p c no-value)
+
+-- ---- Open gives books with every place free, turns 0, no records. It never refuses.
+
+unfoldable pub open-rule : State → Outcome
+open-rule s = record { number = granted; answer = 0; order = []; shown = empty; after = with-books s opened; entry = opens }
+
+module _ (z : Size) where
+  -- ---- Begin takes the lowest free place and answers the handle.
+
+  unfoldable pub begin-reasons : ℕ → State → List Reason
+  begin-reasons log s =
+      (lent if wrong log log-bytes)
+      ∷ (unsound if not (sound z (s .books)))
+      ∷ (full if no-free z (s .books))
+      ∷ room-reason z (s .books) 2
+      ∷ []
+
+  unfoldable pub begin-rule : ℕ → State → Outcome
+  begin-rule log s =
+      let b = s .books in
+      let i = lowest-free z b in
+      let p = begun (place-at b i) (number-of b) in
+      unless-refused (begin-reasons log s) s
+      (recorded granted (handle-of i (p .turn)) (with-books s (with-place b i p)) (record-at begin-kind i p 0 no-value))
+
+  -- ---- Write puts 8 bytes in the place's draft of that cell and marks the cell written. It is not judged.
+
+  unfoldable pub write-reasons : ℕ → State → ℕ → ℕ → List ℕ → List Reason
+  write-reasons log s h c value =
+      (lent if (wrong (length value) cell-bytes || (wrong (length (s .drafts)) (drafts-bytes z) || wrong log log-bytes)))
+      ∷ (unsound if not (sound z (s .books)))
+      ∷ (handle-reasons z (s .books) h ++ (cell-reason z c ∷ room-reason z (s .books) 1 ∷ []))
+
+  unfoldable pub write-rule : ℕ → State → ℕ → ℕ → List ℕ → Outcome
+  write-rule log s h c value =
+      let b = s .books in
+      let i = place-of h in
+      let p = place-at b i in
+      unless-refused (write-reasons log s h c value) s
+      (recorded granted 0
+      (record { books = with-place b i (marked p c); table = s .table; drafts = with-draft z i c value (s .drafts) })
+      (record-at write-kind i p c value))
+
+  -- ---- Read of a cell the transaction has written shows its draft and is not judged. Any other read shows the table's 8 bytes and is judged.
+
+  -- 1 to 5, with the buffers that are lent
+  unfoldable pub show-reasons : State → ℕ → ℕ → List Reason
+  show-reasons s h c =
+      (lent if (wrong (length (s .table)) (table-bytes z) || wrong (length (s .drafts)) (drafts-bytes z)))
+      ∷ (unsound if not (sound z (s .books)))
+      ∷ (handle-reasons z (s .books) h ++ (cell-reason z c ∷ []))
+
+  -- and 7, counted as if granted
+  unfoldable pub read-reasons : ℕ → State → ℕ → ℕ → List Reason
+  read-reasons log s h c = (lent if wrong log log-bytes) ∷ (show-reasons s h c ++ (room-reason z (s .books) 1 ∷ []))
+
+  -- a read of a written cell: its draft is recorded
+  unfoldable pub own-read-of : State → ℕ → ℕ → Outcome
+  own-read-of s i c =
+      recorded granted 0 (with-books s (with-record (s .books))) (record-at own-read-kind i (place-at (s .books) i) c (draft-of z (s .drafts) i c))
+
+  -- the books as they would be if a read were granted
+  unfoldable pub read-books : Books → ℕ → ℕ → Books
+  read-books b i c = with-place b i (read-marked (place-at b i) c (number-of b))
+
+  -- any other read, granted: the table's value is recorded
+  unfoldable pub granted-read-of : State → ℕ → ℕ → Outcome
+  granted-read-of s i c =
+      recorded granted 0 (with-books s (read-books (s .books) i c))
+      (record-at judged-read-kind i (place-at (s .books) i) c (cell-of (s .table) c))
+
+  -- it is weighed with itself counted as granted
+  unfoldable pub judged-read-of : State → ℕ → ℕ → Outcome
+  judged-read-of s i c = cond (has-cycle z (read-books (s .books) i c) i) (turned-back s read-conflict-kind i c) (granted-read-of s i c)
+
+  unfoldable pub read-rule : ℕ → State → ℕ → ℕ → Outcome
+  read-rule log s h c =
+      let i = place-of h in
+      unless-refused (read-reasons log s h c) s
+      (cond (wrote (place-at (s .books) i) c) (own-read-of s i c) (judged-read-of s i c))
+
+  -- Showing takes the new books and the read's number. It shows an empty part unless that is 0 and a read would meet none of 1 to 5.
+  unfoldable pub show-rule : State → ℕ → ℕ → ℕ → Outcome
+  show-rule s given h c =
+      let i = place-of h in
+      unless-refused ((given if not (eqb given 0)) ∷ show-reasons s h c) s
+      record {
+        number = granted;
+        answer = 0;
+        order = [];
+        shown = cond (wrote (place-at (s .books) i) c) (shown-draft z i c) (shown-cell c);
+        after = s;
+        entry = nothing;
+      }
+
+  -- ---- Commit is judged as if granted. Granted, the written cells' drafts go into the table and the place becomes committed.
+
+  unfoldable pub commit-reasons : ℕ → State → ℕ → List Reason
+  commit-reasons log s h =
+      (lent if (wrong (length (s .table)) (table-bytes z) || (wrong (length (s .drafts)) (drafts-bytes z) || wrong log log-bytes)))
+      ∷ (unsound if not (sound z (s .books)))
+      ∷ handle-reasons z (s .books) h
+
+  -- the books as they would be if a commit were granted
+  unfoldable pub commit-books : Books → ℕ → Books
+  commit-books b i = with-place b i (sealed (place-at b i) (number-of b))
+
+  -- granted: the written cells' drafts go into the table
+  unfoldable pub granted-commit-of : State → ℕ → Outcome
+  granted-commit-of s i =
+      let p = place-at (s .books) i in
+      recorded granted 0
+      (record {
+        books = commit-books (s .books) i;
+        table = laid-over z (wrote p) (draft-of z (s .drafts) i) (s .table);
+        drafts = s .drafts;
+      })
+      (record-at commit-kind i p 0 no-value)
+
+  unfoldable pub judged-commit-of : State → ℕ → Outcome
+  judged-commit-of s i = cond (has-cycle z (commit-books (s .books) i) i) (turned-back s commit-conflict-kind i 0) (granted-commit-of s i)
+
+  unfoldable pub commit-rule : ℕ → State → ℕ → Outcome
+  commit-rule log s h = unless-refused (commit-reasons log s h) s (judged-commit-of s (place-of h))
+
+  -- ---- Give up frees the place.
+
+  unfoldable pub give-up-reasons : ℕ → State → ℕ → List Reason
+  give-up-reasons log s h = (lent if wrong log log-bytes) ∷ (unsound if not (sound z (s .books))) ∷ handle-reasons z (s .books) h
+
+  unfoldable pub give-up-rule : ℕ → State → ℕ → Outcome
+  give-up-rule log s h =
+      let b = s .books in
+      let i = place-of h in
+      let p = place-at b i in
+      unless-refused (give-up-reasons log s h) s
+      (recorded granted 0 (with-books s (with-place b i (freed p))) (record-at give-up-kind i p 0 no-value))
+
+  -- ---- Post is begin, write and commit in one record. It writes the table, leaves the drafts, answers the handle, and is never judged.
+
+  unfoldable pub post-reasons : ℕ → State → ℕ → List ℕ → List Reason
+  post-reasons log s c value =
+      (lent if (wrong (length value) cell-bytes || (wrong (length (s .table)) (table-bytes z) || wrong log log-bytes)))
+      ∷ (unsound if not (sound z (s .books)))
+      ∷ cell-reason z c
+      ∷ (full if no-free z (s .books))
+      ∷ room-reason z (s .books) 1
+      ∷ []
+
+  unfoldable pub post-rule : ℕ → State → ℕ → List ℕ → Outcome
+  post-rule log s c value =
+      let b = s .books in
+      let i = lowest-free z b in
+      let p = posted (place-at b i) c (number-of b) in
+      unless-refused (post-reasons log s c value) s
+      (recorded granted (handle-of i (p .turn))
+      (record { books = with-place b i p; table = with-cell c value (s .table); drafts = s .drafts })
+      (record-at post-kind i p c value))
+
+  -- ---- Order answers a count n and puts the transaction's order into the first n numbers of the order buffer. It adds no record.
+
+  -- the second reason for 2 comes after 3
+  unfoldable pub order-reasons : ℕ → State → ℕ → List Reason
+  order-reasons buffer s h =
+      (lent if wrong buffer (order-numbers z))
+      ∷ (unsound if not (sound z (s .books)))
+      ∷ (stale if is-stale z (s .books) h)
+      ∷ (unsound if has-cycle z (s .books) (place-of h))
+      ∷ []
+
+  unfoldable pub order-rule : ℕ → State → ℕ → Outcome
+  order-rule buffer s h =
+      let order = given-order z (s .books) (place-of h) in
+      unless-refused (order-reasons buffer s h) s
+      record { number = granted; answer = length order; order = order; shown = empty; after = s; entry = nothing }
+
+  -- ---- Close writes the trailer just after the last record, frees every place, keeps turns, sets records to 0.
+
+  unfoldable pub close-reasons : ℕ → State → List Reason
+  close-reasons log s =
+      (lent if wrong log log-bytes)
+      ∷ (unsound if not (sound z (s .books)))
+      ∷ (busy if anyBelow (λ i. is-live (place-at (s .books) i)) (z .places))
+      ∷ []
+
+  -- `total` is the number of commits and posts among the records of the lent log
+  unfoldable pub close-rule : ℕ → ℕ → State → Outcome
+  close-rule log total s =
+      unless-refused (close-reasons log s) s
+      record {
+        number = granted;
+        answer = 0;
+        order = [];
+        shown = empty;
+        after = with-books s (closed (s .books));
+        entry = closes (s .books .records) total;
+      }
