@@ -7,7 +7,8 @@ use lib.Dec.{eqb}
 use native.Mathlib.Omega.{arith}
 use Rattle.rules.specs.Sizes.{Size, turns, handles, handles-a-turn}
 use Rattle.rules.specs.Books.{Books, place-at, is-free, is-committed, next-turn}
-use Rattle.rules.specs.Handles.{handle-of, place-of, turn-of, out-of-range, turn-agrees, is-stale, is-ended, Caller, reads, writes, commits, gives-up, orders, gate}
+use Rattle.rules.specs.Numbers.{stale, ended}
+use Rattle.rules.specs.Handles.{handle-of, place-of, turn-of, out-of-range, turn-agrees, is-stale, is-ended, Caller, reads, writes, commits, gives-up, orders, gate-committed, gate}
 
 -- the place and the turn that were put into a handle come out again
 pub place-of-handle-of : (i t : ℕ) → i < handles-a-turn → place-of (handle-of i t) ≡ i
@@ -56,35 +57,36 @@ picks-neither : (t : Bool) {a x y : ℕ} → x ≢ a → y ≢ a → cond t x y 
 picks-neither true h k = h
 picks-neither false h k = k
 
+-- at a committed place the gate never says 3
+committed-not-stale : (c : Caller) → gate-committed c ≢ stale
+unfolding gate-committed
+committed-not-stale reads e = omega arith
+committed-not-stale writes e = omega arith
+committed-not-stale commits e = omega arith
+committed-not-stale gives-up e = omega arith
+committed-not-stale orders e = omega arith
+
+-- and for every call but order it says 4
+committed-ended : (c : Caller) → c ≢ orders → gate-committed c ≡ ended
+unfolding gate-committed
+committed-ended reads other = refl
+committed-ended writes other = refl
+committed-ended commits other = refl
+committed-ended gives-up other = refl
+committed-ended orders other = absurd (other refl)
+
 -- the gate says 3 exactly if the place is free
-gate-reads-free : (s : ℕ) → (gate reads s ≡ 3) ↔ (eqb s 0 ≡ true)
+gate-free : (c : Caller) (s : ℕ) → (gate c s ≡ stale) ↔ (eqb s 0 ≡ true)
 unfolding gate
-gate-reads-free s = picks-first (eqb s 0) (picks-neither (eqb s 1) (λ e. omega arith) (λ e. omega arith))
+gate-free c s = picks-first (eqb s 0) (picks-neither (eqb s 1) (λ e. omega arith) (committed-not-stale c))
 
-gate-free : (c : Caller) (s : ℕ) → (gate c s ≡ 3) ↔ (eqb s 0 ≡ true)
+-- it says 4 exactly if the place is committed, for every call but order
+gate-four : (c : Caller) → c ≢ orders → (s : ℕ) → s ≤ 2 → (gate c s ≡ ended) ↔ (eqb s 2 ≡ true)
 unfolding gate
-gate-free reads s = gate-reads-free s
-gate-free writes s = gate-reads-free s
-gate-free commits s = gate-reads-free s
-gate-free gives-up s = gate-reads-free s
-gate-free orders s = picks-first (eqb s 0) (λ e. omega arith)
-
--- for every call but order there is one gate
-gate-same : (c : Caller) → c ≢ orders → (s : ℕ) → gate c s ≡ gate reads s
-unfolding gate
-gate-same reads other s = refl
-gate-same writes other s = refl
-gate-same commits other s = refl
-gate-same gives-up other s = refl
-gate-same orders other s = absurd (other refl)
-
--- it says 4 exactly if the place is committed
-gate-committed : (s : ℕ) → s ≤ 2 → (gate reads s ≡ 4) ↔ (eqb s 2 ≡ true)
-unfolding gate
-gate-committed zero k = (λ e. absurd (omega arith), λ e. absurd (false≢true e))
-gate-committed (suc zero) k = (λ e. absurd (omega arith), λ e. absurd (false≢true e))
-gate-committed (suc (suc zero)) k = (λ e. refl, λ e. refl)
-gate-committed (suc (suc (suc s))) k = absurd (omega arith)
+gate-four c other zero k = (λ e. absurd (omega arith), λ e. absurd (false≢true e))
+gate-four c other (suc zero) k = (λ e. absurd (omega arith), λ e. absurd (false≢true e))
+gate-four c other (suc (suc zero)) k = (λ e. refl, λ e. committed-ended c other)
+gate-four c other (suc (suc (suc s))) k = absurd (omega arith)
 
 module _ (z : Size) (b : Books) (h : ℕ) (near : out-of-range z h ≡ false) (agrees : turn-agrees b h ≡ true) where
   -- a handle in range whose turn agrees is stale exactly if its place is free, and ended exactly if its place is committed
@@ -97,14 +99,14 @@ module _ (z : Size) (b : Books) (h : ℕ) (near : out-of-range z h ≡ false) (a
   ended-is-committed = rw (near, agrees)
 
   -- the gate says 3 exactly if the handle is stale
-  pub gate-stale : (c : Caller) → (gate c (place-at b (place-of h) .status) ≡ 3) ↔ (is-stale z b h ≡ true)
+  pub gate-stale : (c : Caller) → (gate c (place-at b (place-of h) .status) ≡ stale) ↔ (is-stale z b h ≡ true)
   gate-stale c = rw stale-is-free (gate-free c (place-at b (place-of h) .status))
 
   -- for every call but order it says 4 exactly if the transaction has ended
-  pub gate-ended : (c : Caller) → c ≢ orders → place-at b (place-of h) .status ≤ 2 → (gate c (place-at b (place-of h) .status) ≡ 4) ↔ (is-ended z b h ≡ true)
-  gate-ended c other known = rw (ended-is-committed, gate-same c other) (gate-committed (place-at b (place-of h) .status) known)
+  pub gate-ended : (c : Caller) → c ≢ orders → place-at b (place-of h) .status ≤ 2 → (gate c (place-at b (place-of h) .status) ≡ ended) ↔ (is-ended z b h ≡ true)
+  gate-ended c other known = rw ended-is-committed (gate-four c other (place-at b (place-of h) .status) known)
 
 -- an order is never told that the transaction has ended
-pub gate-orders : (s : ℕ) → gate orders s ≢ 4
-unfolding gate
-gate-orders s = picks-neither (eqb s 0) (λ e. omega arith) (λ e. omega arith)
+pub gate-orders : (s : ℕ) → gate orders s ≢ ended
+unfolding gate gate-committed
+gate-orders s = picks-neither (eqb s 0) (λ e. omega arith) (picks-neither (eqb s 1) (λ e. omega arith) (λ e. omega arith))

@@ -3,6 +3,7 @@ use Prim.Native.Nat.{ℕ, _+_, _*_, _/_, _%_}
 use mathlib.Core.Bool.{Bool, not, cond, _&&_, _||_}
 use lib.Dec.{leb, eqb}
 use Rattle.rules.specs.Sizes.{Size, handles, handles-a-turn}
+use Rattle.rules.specs.Numbers.{granted, stale, ended}
 use Rattle.rules.specs.Books.{Books, place-at, is-free, is-committed}
 
 -- a handle is place + 32 × turn
@@ -37,10 +38,14 @@ is-ended z b h = not (out-of-range z h) && (turn-agrees b h && is-committed (pla
 pub data Caller : Type 0 where
   reads writes commits gives-up orders : Caller
 
--- by place status: free, always 3; live, goes on (0); committed, 4 for read, write, commit and give up, while order goes on
+-- a committed place: 4 for read, write, commit and give up, while order goes on
+unfoldable pub gate-committed : Caller → ℕ
+gate-committed reads = ended
+gate-committed writes = ended
+gate-committed commits = ended
+gate-committed gives-up = ended
+gate-committed orders = granted
+
+-- by place status: free, always 3; live, goes on; committed, by the call
 unfoldable pub gate : Caller → ℕ → ℕ
-gate reads status = cond (eqb status 0) 3 (cond (eqb status 1) 0 4)
-gate writes status = cond (eqb status 0) 3 (cond (eqb status 1) 0 4)
-gate commits status = cond (eqb status 0) 3 (cond (eqb status 1) 0 4)
-gate gives-up status = cond (eqb status 0) 3 (cond (eqb status 1) 0 4)
-gate orders status = cond (eqb status 0) 3 0
+gate c status = cond (eqb status 0) stale (cond (eqb status 1) granted (gate-committed c))
