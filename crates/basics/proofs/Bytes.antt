@@ -11,13 +11,10 @@ use lib.ListN.{length, take, drop, getD, length-append, length-take, length-drop
 use lib.Seq.{length-take-le, take-append-le, drop-append-le, take-at, drop-at, drop-drop}
 use borrow.Author.Tests.{eqb-true, eq-eqb, ltb-true, lt-ltb}
 use Rattle.basics.specs.Lists.{allIn}
-use Rattle.basics.specs.Bytes.{part, splice, little, number, same}
+use Rattle.basics.specs.Bytes.{AreBytes, part, splice, little, number, same}
 use Rattle.basics.proofs.Bools.{and-left, and-right, and-both}
 
--- each element is a byte; past the end the element read is 0
-abbrev pub AreBytes : List ℕ → Type 0
-AreBytes bs = (i : ℕ) → getD bs i 0 < 256
-
+-- lists of bytes, made and taken apart
 pub bytes-nil : AreBytes []
 bytes-nil i = omega arith
 

@@ -1,6 +1,7 @@
 pub mod Below
 pub mod Bools
 pub mod Bytes
+pub mod Elements
 pub mod Eliminated
 pub mod Elimination
 pub mod Lists

@@ -4,7 +4,9 @@ use mathlib.Core.Path.{_≡_, refl, sym, _∙_, ap, ap₂, subst}
 use mathlib.Core.Logic.{_⊎_, inl, inr, ⊎-elim, _↔_}
 use mathlib.Core.Bool.{Bool, true, false, not, cond, _&&_, _||_, true≢false, false≢true, and-assoc, or-assoc}
 use mathlib.Core.List.{List, [], _∷_, _++_, List·Memᴰ, List·Memᴰ·head, List·Memᴰ·tail}
-use Prim.Native.Nat.{ℕ, suc, _<_, suc-le-suc}
+use Prim.Native.Nat.{ℕ, suc, _+_, _<_, suc-le-suc}
+use lib.ListN.{length, drop, length-append}
+use lib.Seq.{drop-at}
 use native.Mathlib.Omega.{arith}
 use lib.Dec.{eqb}
 use borrow.Author.Tests.{eqb-true, eqb-false, eq-eqb, ne-eqb, not-true}
@@ -249,3 +251,9 @@ module _ (xs ys : List ℕ) where
 -- nobody listed after m is m
 pub distinct-split : (xs ys : List ℕ) (m : ℕ) → distinct (xs ++ (m ∷ ys)) ≡ true → member m ys ≡ false
 distinct-split xs ys m e = distinct-head m ys (distinct-second xs (m ∷ ys) e)
+
+-- of one list, two ends of the same length are the same
+pub same-end {ℓ} : {A : Type ℓ} (xs us ys vs : List A) → length us ≡ length vs → xs ++ us ≡ ys ++ vs → us ≡ vs
+same-end xs us ys vs l e =
+    let whole : length xs + length us ≡ length ys + length vs = sym (length-append xs us) ∙ ap length e ∙ length-append ys vs in
+    sym (drop-at xs us (length xs) (omega arith)) ∙ ap (drop (length xs)) e ∙ drop-at ys vs (length xs) (omega arith)

@@ -3,10 +3,10 @@ use Prim.Native.Nat.{ℕ, _≤_, _<_}
 use mathlib.Core.Path.{_≡_, refl}
 use mathlib.Core.Logic.{_↔_, _⊎_, inl, inr, ⊎-elim}
 use mathlib.Core.Bool.{Bool, true, false, not, cond, _&&_, _||_, true≢false, false≢true}
-use lib.Dec.{leb, eqb}
-use borrow.Author.Tests.{eqb-true, eq-eqb, leb-true, le-leb}
+use lib.Dec.{leb, ltb, eqb}
+use borrow.Author.Tests.{eqb-true, eq-eqb, leb-true, le-leb, ltb-true, lt-ltb}
 use Rattle.basics.specs.Below.{allBelow}
-use Rattle.basics.proofs.Bools.{and-left, and-right, and-both, or-true, or-left, or-right}
+use Rattle.basics.proofs.Bools.{clash, and-left, and-right, and-both, or-true, or-left, or-right}
 use Rattle.basics.proofs.Below.{all-at, all-of}
 
 -- comparisons of numbers
@@ -15,6 +15,9 @@ eqb-says a b = (eqb-true a b, eq-eqb a b)
 
 pub leb-says : (a b : ℕ) → (leb a b ≡ true) ↔ (a ≤ b)
 leb-says a b = (leb-true a b, le-leb a b)
+
+pub ltb-says : (a b : ℕ) → (ltb a b ≡ true) ↔ (a < b)
+ltb-says a b = (ltb-true a b, lt-ltb a b)
 
 -- a negated test, plainly and by what the test says
 pub not-says : (t : Bool) → (not t ≡ true) ↔ (t ≡ false)
@@ -37,6 +40,21 @@ or-says {s} {t} p q =
 pub cond-says : (t : Bool) {u v : Bool} {P : Type 0} → (t ≡ true → (u ≡ true) ↔ P) → (t ≡ false → (v ≡ true) ↔ P) → (cond t u v ≡ true) ↔ P
 cond-says true passes fails = passes refl
 cond-says false passes fails = fails refl
+
+-- a test that is asked only where another passes
+pub if-says : (t : Bool) {u : Bool} {P : Type 0} → (u ≡ true) ↔ P → (cond t u true ≡ true) ↔ (t ≡ true → P)
+if-says true s = (λ e q. s .0 e, λ f. s .1 (f refl))
+if-says false s = (λ e q. absurd (clash q refl), λ f. refl)
+
+-- a test that is asked only where another fails
+pub unless-says : (t : Bool) {u : Bool} {P : Type 0} → (u ≡ true) ↔ P → (cond t true u ≡ true) ↔ (t ≡ false → P)
+unless-says true s = (λ e q. absurd (clash refl q), λ f. refl)
+unless-says false s = (λ e q. s .0 e, λ f. s .1 (f refl))
+
+-- one test where another passes, and a second where it fails
+pub either-says : (t : Bool) {u v : Bool} {P Q : Type 0} → (u ≡ true) ↔ P → (v ≡ true) ↔ Q → (cond t u v ≡ true) ↔ ((t ≡ true → P) × (t ≡ false → Q))
+either-says true s o = (λ e. (λ q. s .0 e, λ q. absurd (clash refl q)), λ f. s .1 (f .0 refl))
+either-says false s o = (λ e. (λ q. absurd (clash q refl), λ q. o .0 e), λ f. o .1 (f .1 refl))
 
 -- a test of all numbers below a limit
 pub all-says : (p : ℕ → Bool) (n : ℕ) {P : ℕ → Type 0} → ((i : ℕ) → i < n → (p i ≡ true) ↔ P i) → (allBelow p n ≡ true) ↔ ((i : ℕ) → i < n → P i)

@@ -19,7 +19,7 @@ use Rattle.rules.specs.Daylog.{read-conflict-kind, commit-conflict-kind}
 use Rattle.rules.specs.State.{State, Outcome, refused, unless-refused, recorded}
 use Rattle.rules.specs.Steps.{handle-reasons, cell-reason, room-reason, show-reasons, read-reasons, commit-reasons, read-books, commit-books, turned-back, own-read-of, granted-read-of, judged-read-of, granted-commit-of, judged-commit-of, read-rule, commit-rule}
 use Rattle.rules.specs.Run.{Read, Commit, Machine, outcome}
-use Rattle.rules.specs.Statements.{ReadConflict, CommitConflict, Conflicts}
+use Rattle.rules.specs.Statements.{TurnsBack, ReadConflict, CommitConflict, Conflicts}
 use Rattle.rules.proofs.Judging.{given-orders}
 use Rattle.rules.proofs.Reasons.{refused-or-not}
 
@@ -65,6 +65,18 @@ module _ (reasons : List Reason) (no-nine : NoNine reasons) (s : State) (w t : B
   unfolding unless-refused
   conflict-of g e f = rw (g, e, f) nine
 
+-- what being turned back means
+turned-back-turns : (s : State) (kind i c : ℕ) (o : Outcome) → o ≡ turned-back s kind i c → TurnsBack s kind i c o
+unfolding turned-back recorded
+turned-back-turns s kind i c o e =
+    record {
+      no-answer = ap (λ x. x .answer) e;
+      place-freed = ap (λ x. x .after .books) e;
+      table-stays = ap (λ x. x .after .table) e;
+      drafts-stay = ap (λ x. x .after .drafts) e;
+      one-record = ap (λ x. x .entry) e;
+    }
+
 -- ---- the two judged calls
 
 module _ (z : Size) (m : Machine) (h : ℕ) where
@@ -92,7 +104,7 @@ module _ (z : Size) (m : Machine) (h : ℕ) where
           λ e. let p = conflict-parts (commit-reasons z log-bytes s h) commit-no-nine s false commit-cycle on back on refl refl refl e in (p .0, told .0 (p .2)),
           λ p. conflict-of (commit-reasons z log-bytes s h) commit-no-nine s false commit-cycle on back on refl refl refl (p .0) refl (told .1 (p .1)),
         );
-        turns-back = λ e. conflict-parts (commit-reasons z log-bytes s h) commit-no-nine s false commit-cycle on back on refl refl refl e .3;
+        turns-back = λ e. turned-back-turns s commit-conflict-kind i 0 (outcome z (Commit h) m) (conflict-parts (commit-reasons z log-bytes s h) commit-no-nine s false commit-cycle on back on refl refl refl e .3);
       }
 
   module _ (c : ℕ) where
@@ -116,7 +128,7 @@ module _ (z : Size) (m : Machine) (h : ℕ) where
             λ e. let p = conflict-parts (read-reasons z log-bytes s h c) read-no-nine s w read-cycle own back on refl refl refl e in (p .0, p .1, told .0 (p .2)),
             λ p. conflict-of (read-reasons z log-bytes s h c) read-no-nine s w read-cycle own back on refl refl refl (p .0) (p .1) (told .1 (p .2)),
           );
-          turns-back = λ e. conflict-parts (read-reasons z log-bytes s h c) read-no-nine s w read-cycle own back on refl refl refl e .3;
+          turns-back = λ e. turned-back-turns s read-conflict-kind i c (outcome z (Read h c) m) (conflict-parts (read-reasons z log-bytes s h c) read-no-nine s w read-cycle own back on refl refl refl e .3);
         }
 
 pub conflicts : Conflicts

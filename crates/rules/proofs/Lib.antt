@@ -1,9 +1,17 @@
 pub mod CaseA
+pub mod Commits
 pub mod Conflict
+pub mod Day
+pub mod Daylog
+pub mod Encoding
 pub mod Handles
 pub mod Judging
+pub mod LaidOut
+pub mod LivePlaces
 pub mod Reasons
+pub mod Seats
 pub mod Shape
 pub mod Sound
 pub mod SoundKept
+pub mod Theorems
 pub mod Trials

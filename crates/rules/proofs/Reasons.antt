@@ -1,6 +1,6 @@
 -- Reasons and refusals: the first reason that applies is the answer, and a refusal other than 9 changes nothing, for every call as one law.
 -- Assumes nothing.
-use mathlib.Core.Path.{_≡_, refl, sym, _∙_}
+use mathlib.Core.Path.{_≡_, refl, sym, ap, _∙_}
 use mathlib.Core.Logic.{_≢_, _⊎_, inl, inr, ⊎-elim}
 use Prim.Native.Nat.{ℕ, _<_}
 use native.Mathlib.Omega.{arith}
@@ -19,7 +19,7 @@ use Rattle.rules.specs.Numbers.{granted, conflict, Reason, first-reason}
 use Rattle.rules.specs.State.{State, Outcome, refused, unless-refused, recorded}
 use Rattle.rules.specs.Steps.{turned-back, read-books, granted-read-of, judged-read-of, own-read-of, commit-books, granted-commit-of, judged-commit-of, open-rule, begin-rule, write-rule, read-rule, show-rule, commit-rule, give-up-rule, post-rule, order-rule, close-rule}
 use Rattle.rules.specs.Run.{Call, Open, Begin, Write, Read, Show, Commit, GiveUp, Post, Order, Close, Machine, outcome, moved-on, after-call}
-use Rattle.rules.specs.Statements.{RefusalsChangeNothing, ResultsUnique}
+use Rattle.rules.specs.Statements.{ChangesNothing, RefusalsChangeNothing, ResultsUnique}
 
 -- ---- the first reason
 
@@ -103,13 +103,21 @@ refusal-unchanged z (Post c value) m = unchanged _ _ _ (inl refl)
 refusal-unchanged z (Order h) m = unchanged _ _ _ (inl refl)
 refusal-unchanged z Close m = unchanged _ _ _ (inl refl)
 
--- the machine after a refusal is the machine
-machine-stays : (m : Machine) (n : ℕ) (o : Outcome) → o ≡ refused n (m .state) → after-call m o ≡ m
+-- what a refusal is
+refused-changes-nothing : (m : Machine) (n : ℕ) (o : Outcome) → o ≡ refused n (m .state) → ChangesNothing m o
 unfolding after-call moved-on refused
-machine-stays m n o e = rw e
+refused-changes-nothing m n o e =
+    record {
+      no-answer = ap (λ x. x .answer) e;
+      no-order = ap (λ x. x .order) e;
+      nothing-shown = ap (λ x. x .shown) e;
+      state-stays = ap (λ x. x .after) e;
+      nothing-added = ap (λ x. x .entry) e;
+      machine-stays = ap (after-call m) e;
+    }
 
 pub refusals-change-nothing : RefusalsChangeNothing
-refusals-change-nothing z c m n k = let e = refusal-unchanged z c m n k in (e, machine-stays m (outcome z c m .number) (outcome z c m) e)
+refusals-change-nothing z c m n k = refused-changes-nothing m (outcome z c m .number) (outcome z c m) (refusal-unchanged z c m n k)
 
 -- a rule is a function: two results that meet it are equal
 pub results-unique : ResultsUnique

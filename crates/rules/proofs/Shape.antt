@@ -9,6 +9,7 @@ use lib.Seq.{getD-set-same, getD-set-other}
 use native.Mathlib.Nat.{not-suc-le-zero, le-of-suc-le-suc}
 use native.Mathlib.Omega.{arith}
 use Rattle.basics.proofs.Bools.{equal-or-not}
+use Rattle.basics.proofs.Elements.{getD-map-within}
 use Rattle.rules.specs.declared.Place.{Place}
 use Rattle.rules.specs.Sizes.{width}
 use Rattle.rules.specs.Books.{Books, Shaped, place-at, no-place, freed, begun, posted, marked, read-marked, sealed, with-place, with-record, opened, closed}
@@ -47,12 +48,6 @@ unfolding sealed
 wide-sealed n w = record { written = w .written; first = w .first; last = w .last }
 
 -- ---- the place of a number, after a change of the books
-
--- an element of a mapped list, whatever stands for the elements past the end
-getD-map-within {ℓ κ} : {A : Type ℓ} {B : Type κ} (f : A → B) (l : List A) (i : ℕ) (a : A) (b : B) → i < length l → getD (map f l) i b ≡ f (getD l i a)
-getD-map-within f [] i a b h = absurd (not-suc-le-zero h)
-getD-map-within f (x ∷ xs) zero a b h = refl
-getD-map-within f (x ∷ xs) (suc i) a b h = getD-map-within f xs i a b (le-of-suc-le-suc h)
 
 -- as many places as the width
 inside : {b : Books} {i : ℕ} → Shaped b → i < width → i < length (b .places)

@@ -8,6 +8,7 @@ use lib.Dec.{eqb}
 use native.Mathlib.Omega.{arith}
 use borrow.Author.Tests.{eqb-true}
 use Rattle.basics.proofs.Below.{count-nobody}
+use Rattle.basics.proofs.Elements.{getD-replicate-same, getD-map-all}
 use Rattle.rules.specs.declared.Place.{Place}
 use Rattle.rules.specs.Sizes.{Size, width, most-records}
 use Rattle.rules.specs.Books.{Books, place-at, no-place, is-live, freed, opened, closed, live-count, room-taken}
@@ -35,18 +36,6 @@ module _ (z : Size) (b : Books) (blank : (i : ℕ) → i < z .places → Blank z
       }
 
 -- ---- freed places
-
--- an element of n times a is a, and so is what stands past the end
-getD-replicate-same {ℓ} : {A : Type ℓ} (n i : ℕ) (a : A) → getD (replicate n a) i a ≡ a
-getD-replicate-same zero i a = refl
-getD-replicate-same (suc n) zero a = refl
-getD-replicate-same (suc n) (suc i) a = getD-replicate-same n i a
-
--- what holds of each image, and of what stands past the end, holds of each element of a mapped list
-getD-map-all {ℓ} : {A B : Type ℓ} (P : B → Type 0) (f : A → B) (l : List A) (i : ℕ) (d : B) → P d → ((a : A) → P (f a)) → P (getD (map f l) i d)
-getD-map-all P f [] i d p q = p
-getD-map-all P f (x ∷ xs) zero d p q = q x
-getD-map-all P f (x ∷ xs) (suc i) d p q = getD-map-all P f xs i d p q
 
 -- no place, and a freed place, are blank
 pub blank-no-place : (z : Size) → Blank z no-place

@@ -35,6 +35,10 @@ entry-bytes opens = []
 unfoldable pub log-after : ℕ → Entry → List ℕ → List ℕ
 log-after records entry log = splice (record-bytes * records) (entry-bytes entry) log
 
+-- the lent order buffer after the call: the order in its first numbers, the others stay
+unfoldable pub buffer-after : List ℕ → List ℕ → List ℕ
+buffer-after order buffer = splice 0 order buffer
+
 -- what a reader is shown: an empty part, or the eight bytes in the drafts or in the table themselves, from a place on
 pub data Shown : Type 0 where
   empty : Shown

@@ -1,21 +1,24 @@
 -- What is proved of the rules: the types of the theorems, to be read without their proofs.
 use mathlib.Core.Path.{_≡_}
 use mathlib.Core.Logic.{_↔_, _≢_}
-use Prim.Native.Nat.{ℕ, _<_}
+use Prim.Native.Nat.{ℕ, _≤_, _<_}
 use mathlib.Core.Bool.{Bool, true, false}
-use mathlib.Core.List.{List}
+use mathlib.Core.List.{List, []}
+use lib.ListN.{length}
+use Rattle.basics.specs.Bytes.{AreBytes}
 use Rattle.basics.specs.Lists.{member, distinct, keeps}
 use Rattle.basics.specs.Elimination.{TakesLowest}
-use Rattle.rules.specs.Sizes.{Size, log-bytes}
-use Rattle.rules.specs.Books.{Books, place-at, is-held, wrote}
+use Rattle.rules.specs.declared.Record.{Record}
+use Rattle.rules.specs.Sizes.{Size, record-bytes, most-records, log-bytes}
+use Rattle.rules.specs.Books.{Books, place-at, is-held, wrote, freed, with-place}
 use Rattle.rules.specs.Handles.{place-of}
 use Rattle.rules.specs.Sound.{sound, Sound}
 use Rattle.rules.specs.Judging.{stands-before, company, has-cycle, HasCycle, given-places}
 use Rattle.rules.specs.Numbers.{granted, conflict, first-reason}
-use Rattle.rules.specs.Daylog.{read-conflict-kind, commit-conflict-kind}
-use Rattle.rules.specs.State.{Outcome, refused}
-use Rattle.rules.specs.Layout.{well-laid-out, WellLaidOut}
-use Rattle.rules.specs.Steps.{read-reasons, read-books, commit-reasons, commit-books, turned-back}
+use Rattle.rules.specs.Daylog.{Proper, AllProper, read-conflict-kind, commit-conflict-kind, no-value, encode, decode, spare-zero, standing, records-in, day-of}
+use Rattle.rules.specs.State.{State, Outcome, nothing, adds, empty}
+use Rattle.rules.specs.Layout.{walks, well-laid-out, WellLaidOut}
+use Rattle.rules.specs.Steps.{record-at, read-reasons, read-books, commit-reasons, commit-books}
 use Rattle.rules.specs.Run.{Call, Read, Commit, Machine, outcome, after-call}
 
 -- the test of soundness says what the clauses say
@@ -26,24 +29,50 @@ SoundnessSays = (z : Size) (b : Books) → (sound z b ≡ true) ↔ Sound z b
 abbrev pub LayoutSays : Type 0
 LayoutSays = (z : Size) (log : List ℕ) → (well-laid-out z log ≡ true) ↔ WellLaidOut z log
 
+-- records, days and logs read back
+pub record LogReadsBack : Type 0 where
+  -- a record comes back from its bytes, and 16 bytes with zero in the spare ones from their record
+  pub record-back : (r : Record) → Proper r → decode (encode r) ≡ r
+  pub bytes-back : (bytes : List ℕ) → length bytes ≡ record-bytes → AreBytes bytes → spare-zero bytes ≡ true → encode (decode bytes) ≡ bytes
+  -- a day comes back from its log as it stands, and a well laid out log from its day
+  pub day-back : (day : List Record) → AllProper day → day-of (standing day) (records-in (standing day)) ≡ day
+  pub log-back : (z : Size) (log : List ℕ) → AreBytes log → well-laid-out z log ≡ true → standing (day-of log (records-in log)) ≡ log
+  -- a day that the walk goes through stands in a well laid out log
+  pub day-laid-out : (z : Size) (day : List Record) → walks z day ≡ true → length day ≤ most-records → AllProper day → well-laid-out z (standing day) ≡ true
+
 -- two results of a call are equal
 abbrev pub ResultsUnique : Type 0
 ResultsUnique = (z : Size) (c : Call) (m : Machine) (one other : Outcome) → one ≡ outcome z c m → other ≡ outcome z c m → one ≡ other
 
 -- a refusal other than 9 answers its number and nothing else, and changes nothing
-abbrev pub RefusalsChangeNothing : Type 0
-RefusalsChangeNothing = (z : Size) (c : Call) (m : Machine) → let o = outcome z c m in o .number ≢ granted → o .number ≢ conflict → (o ≡ refused (o .number) (m .state)) × (after-call m o ≡ m)
+pub record ChangesNothing (m : Machine) (o : Outcome) : Type 0 where
+  pub no-answer : o .answer ≡ 0
+  pub no-order : o .order ≡ []
+  pub nothing-shown : o .shown ≡ empty
+  pub state-stays : o .after ≡ m .state
+  pub nothing-added : o .entry ≡ nothing
+  pub machine-stays : after-call m o ≡ m
 
--- a read meets Conflict exactly if it meets none of 1 to 7, its cell is not written, and with itself counted as granted the pairs contain
--- a cycle; it then frees the place and adds one record
+abbrev pub RefusalsChangeNothing : Type 0
+RefusalsChangeNothing = (z : Size) (c : Call) (m : Machine) → outcome z c m .number ≢ granted → outcome z c m .number ≢ conflict → ChangesNothing m (outcome z c m)
+
+-- Conflict ends the transaction at place i, frees its place and adds one record of the kind; nothing else changes
+pub record TurnsBack (s : State) (kind i c : ℕ) (o : Outcome) : Type 0 where
+  pub no-answer : o .answer ≡ 0
+  pub place-freed : o .after .books ≡ with-place (s .books) i (freed (place-at (s .books) i))
+  pub table-stays : o .after .table ≡ s .table
+  pub drafts-stay : o .after .drafts ≡ s .drafts
+  pub one-record : o .entry ≡ adds (record-at kind i (place-at (s .books) i) c no-value)
+
+-- a read meets Conflict exactly if it meets none of 1 to 7, its cell is not written, and with itself counted as granted the pairs contain a cycle
 pub record ReadConflict (z : Size) (m : Machine) (h c : ℕ) : Type 0 where
   pub exactly : (outcome z (Read h c) m .number ≡ conflict) ↔ ((first-reason (read-reasons z log-bytes (m .state) h c) ≡ granted) × (wrote (place-at (m .state .books) (place-of h)) c ≡ false) × HasCycle z (read-books z (m .state .books) (place-of h) c) (place-of h))
-  pub turns-back : outcome z (Read h c) m .number ≡ conflict → outcome z (Read h c) m ≡ turned-back (m .state) read-conflict-kind (place-of h) c
+  pub turns-back : outcome z (Read h c) m .number ≡ conflict → TurnsBack (m .state) read-conflict-kind (place-of h) c (outcome z (Read h c) m)
 
 -- a commit meets Conflict exactly if it meets none of 1 to 4 and, with itself counted as granted, the pairs contain a cycle
 pub record CommitConflict (z : Size) (m : Machine) (h : ℕ) : Type 0 where
   pub exactly : (outcome z (Commit h) m .number ≡ conflict) ↔ ((first-reason (commit-reasons z log-bytes (m .state) h) ≡ granted) × HasCycle z (commit-books z (m .state .books) (place-of h)) (place-of h))
-  pub turns-back : outcome z (Commit h) m .number ≡ conflict → outcome z (Commit h) m ≡ turned-back (m .state) commit-conflict-kind (place-of h) 0
+  pub turns-back : outcome z (Commit h) m .number ≡ conflict → TurnsBack (m .state) commit-conflict-kind (place-of h) 0 (outcome z (Commit h) m)
 
 pub record Conflicts : Type 0 where
   pub at-read : (z : Size) (m : Machine) (h c : ℕ) → ReadConflict z m h c

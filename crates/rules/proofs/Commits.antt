@@ -1,0 +1,238 @@
+-- Laws of commits and moments in a day that walks: held places have different begin records, a transaction has at most one committing
+-- event, and neither commit nor moment is older than the transaction. Assumes nothing.
+use Prim.Native.Nat.{ℕ, suc, _≤_}
+use mathlib.Core.Path.{_≡_, refl, sym, _∙_, ap}
+use mathlib.Core.Logic.{_↔_, _⊎_, ⊎-elim}
+use mathlib.Core.Bool.{Bool, true, false, _&&_, false≢true}
+use mathlib.Core.List.{List, [], _∷_, List·Memᴰ, List·Memᴰ·head, List·Memᴰ·tail, List·Memᴰ·not-nil}
+use lib.ListN.{length}
+use lib.Dec.{eqb}
+use native.Mathlib.Nat.{le-refl}
+use native.Mathlib.Omega.{arith}
+use borrow.Author.Tests.{eqb-true, eqb-false, eq-eqb}
+use Rattle.basics.specs.Lists.{anyIn}
+use Rattle.basics.proofs.Bools.{split, and-left, and-right, and-both, false-of-not, true-of-not, or-false-left, or-false-right, equal-or-not}
+use Rattle.basics.proofs.Lists.{any-in-of, same-end}
+use Rattle.basics.proofs.Says.{eqb-says, or-says}
+use Rattle.rules.specs.declared.Record.{Record}
+use Rattle.rules.specs.Sizes.{Size}
+use Rattle.rules.specs.Daylog.{commit-kind, post-kind, kind-starts, kind-commits}
+use Rattle.rules.specs.Layout.{seat, fits, walks, Held}
+use Rattle.rules.specs.Day.{Event, whose, event, events, latest, commit-of, committed, moves-moment, moment-of}
+use Rattle.rules.proofs.Seats.{seat-by, moved-post, moved-commit, seat-here, seat-other, fits-live, held-of-seat, seat-of-held}
+use Rattle.rules.proofs.Day.{event-cases, number-bounds, begin-bound, whose-starts, whose-others, who-bound, walks-earlier}
+
+-- ---- held places
+
+-- two held places with one begin record are one place
+held-once : {p q : ℕ} {earlier : List Record} (a : Held p earlier) (b : Held q earlier) → length (a .before) ≡ length (b .before) → p ≡ q
+held-once a b l =
+    let ends : (a .start ∷ a .before) ≡ (b .start ∷ b .before) = same-end (a .since) _ (b .since) _ (ap suc l) (sym (a .split) ∙ b .split) in
+    let one : a .start ≡ b .start = cc in
+    sym (a .there) ∙ ap (λ r. r .place) one ∙ b .there
+
+pub begins-differ : (z : Size) (earlier : List Record) → walks z earlier ≡ true → (p q : ℕ) → 1 ≤ seat earlier p .status → 1 ≤ seat earlier q .status
+    → seat earlier p .begin ≡ seat earlier q .begin → p ≡ q
+begins-differ z earlier w p q hp hq e =
+    let a = held-of-seat p z earlier w hp in
+    let b = held-of-seat q z earlier w hq in
+    held-once a b (omega (arith, seat-of-held p earlier a, seat-of-held q earlier b))
+
+-- ---- one committing event
+
+-- no place is live with the transaction
+abbrev Sealed : ℕ → List Record → Type 0
+Sealed t earlier = (p : ℕ) → seat earlier p .status ≡ 1 → seat earlier p .begin ≡ t → ⊥
+
+-- the kinds that commit
+commits-say : (k : ℕ) → (kind-commits k ≡ true) ↔ ((k ≡ commit-kind) ⊎ (k ≡ post-kind))
+unfolding kind-commits
+commits-say k = or-says (eqb-says k commit-kind) (eqb-says k post-kind)
+
+-- a post starts its transaction, and a commit none
+post-starts : (k : ℕ) → k ≡ post-kind → kind-starts k ≡ true
+unfolding kind-starts
+post-starts k e = ap kind-starts e
+
+commit-starts-nothing : (k : ℕ) → k ≡ commit-kind → kind-starts k ≡ false
+unfolding kind-starts
+commit-starts-nothing k e = ap kind-starts e
+
+-- what no place is live with stays so, past any record
+sealed-more : (t : ℕ) (r : Record) (earlier : List Record) → t ≤ length earlier → Sealed t earlier → Sealed t (r ∷ earlier)
+sealed-more t r earlier h known p =
+    seat-by r earlier p (λ s. s .status ≡ 1 → s .begin ≡ t → ⊥) (λ other. known p) λ here.
+    record {
+      on-begin = λ k live begun. omega arith;
+      on-post = λ k live begun. omega arith;
+      on-write = λ k. known p;
+      on-commit = λ k live begun. omega arith;
+      on-free = λ k live begun. omega arith;
+      on-quiet = λ q w. known p;
+    }
+
+module _ (z : Size) where
+  -- once a record commits, no place is live with its transaction
+  sealed-here : (r : Record) (earlier : List Record) → walks z (r ∷ earlier) ≡ true → kind-commits (r .kind) ≡ true
+      → Sealed (whose earlier r) (r ∷ earlier)
+  sealed-here r earlier w c p live begun =
+      equal-or-not (r .place) p at-place
+      (λ other. ⊎-elim (committed-elsewhere other) (posted-elsewhere other) (commits-say (r .kind) .0 c))
+    where
+      at-place : r .place ≡ p → ⊥
+      at-place here =
+          let n = suc (length earlier) in
+          let s = seat earlier p in
+          let q = seat-here r earlier p here in
+          ⊎-elim (λ k. let l = rw (q ∙ moved-commit n r s k) at live in omega arith)
+          (λ k. let l = rw (q ∙ moved-post n r s k) at live in omega arith) (commits-say (r .kind) .0 c)
+
+      posted-elsewhere : (r .place ≡ p → ⊥) → r .kind ≡ post-kind → ⊥
+      posted-elsewhere other k =
+          omega (arith, rw (seat-other r earlier p other) at begun, whose-starts earlier r (post-starts (r .kind) k), begin-bound earlier p)
+
+      committed-elsewhere : (r .place ≡ p → ⊥) → r .kind ≡ commit-kind → ⊥
+      committed-elsewhere other k =
+          let v = walks-earlier z r earlier w in
+          let quiet = commit-starts-nothing (r .kind) k in
+          let there = fits-live earlier r quiet (v .1) in
+          let here : seat earlier p .status ≡ 1 = rw (seat-other r earlier p other) at live in
+          let whose-it-is : seat earlier p .begin ≡ whose earlier r = rw (seat-other r earlier p other) at begun in
+          other (sym (begins-differ z earlier (v .0) p (r .place) (omega arith) (omega arith) (whose-it-is ∙ whose-others earlier r quiet)))
+
+  -- and that stays so
+  sealed-after : (day : List Record) {e : Event} → walks z day ≡ true → List·Memᴰ e (events day) → kind-commits (e .kind) ≡ true → Sealed (e .who) day
+  unfolding events event
+  sealed-after [] w m c = absurd (List·Memᴰ·not-nil m)
+  sealed-after (r ∷ earlier) {e} w m c =
+      ⊎-elim (λ q. rw q (sealed-here r earlier w (rw q at c)))
+      (λ k.
+      let below : e .who ≤ length earlier = omega (arith, who-bound earlier k, number-bounds earlier k) in
+      sealed-more (e .who) r earlier below (sealed-after earlier (walks-earlier z r earlier w .0) k c))
+      (event-cases r earlier m)
+
+  -- a record that commits is of no transaction that has committed before
+  commits-once : (r : Record) (earlier : List Record) {e : Event} → walks z (r ∷ earlier) ≡ true → List·Memᴰ e (events earlier)
+      → kind-commits (e .kind) ≡ true → kind-commits (r .kind) ≡ true → e .who ≡ whose earlier r → ⊥
+  commits-once r earlier {e} w m ce cr q =
+      split (kind-starts (r .kind))
+      (λ k. omega (arith, whose-starts earlier r k, who-bound earlier m, number-bounds earlier m))
+      (λ k. sealed-after earlier (v .0) m ce (r .place) (fits-live earlier r k (v .1) .0) (sym (whose-others earlier r k) ∙ sym q))
+    where
+      v : (walks z earlier ≡ true) × (fits earlier r ≡ true)
+      v = walks-earlier z r earlier w
+
+  -- a transaction has at most one committing event
+  pub commits-unique : (day : List Record) {e f : Event} → walks z day ≡ true → List·Memᴰ e (events day) → List·Memᴰ f (events day)
+      → kind-commits (e .kind) ≡ true → kind-commits (f .kind) ≡ true → e .who ≡ f .who → e ≡ f
+  unfolding events event
+  commits-unique [] w m n ce cf q = absurd (List·Memᴰ·not-nil m)
+  commits-unique (r ∷ earlier) {e} {f} w m n ce cf q =
+      ⊎-elim
+      (λ a. ⊎-elim (λ b. a ∙ sym b) (λ b. absurd (newer a b ce cf (sym q))) (event-cases r earlier n))
+      (λ a. ⊎-elim (λ b. absurd (newer b a cf ce q)) (λ b. commits-unique earlier (walks-earlier z r earlier w .0) a b ce cf q) (event-cases r earlier n))
+      (event-cases r earlier m)
+    where
+      newer : {x y : Event} → x ≡ event earlier r → List·Memᴰ y (events earlier) → kind-commits (x .kind) ≡ true → kind-commits (y .kind) ≡ true
+          → y .who ≡ x .who → ⊥
+      newer a b cx cy o = commits-once r earlier w b cy (rw a at cx) (rw a at o)
+
+-- ---- the newest event that passes
+
+module _ (passes : Event → Bool) where
+  -- it is the number of an event that passes, or 0 where none does
+  pub latest-none : (es : List Event) → anyIn passes es ≡ false → latest passes es ≡ 0
+  unfolding latest anyIn
+  latest-none [] q = refl
+  latest-none (e ∷ earlier) q =
+      rw (or-false-left (passes e) (anyIn passes earlier) q) (latest-none earlier (or-false-right (passes e) (anyIn passes earlier) q))
+
+  pub latest-found : (es : List Event) → anyIn passes es ≡ true → (e : Event) × List·Memᴰ e es × (passes e ≡ true) × (latest passes es ≡ e .number)
+  unfolding latest anyIn
+  latest-found [] q = absurd (false≢true q)
+  latest-found (e ∷ earlier) q =
+      split (passes e) (λ t. (e, List·Memᴰ·head refl, t, rw t))
+      (λ f. let x = latest-found earlier (rw f at q) in (x .0, List·Memᴰ·tail (x .1), x .2, rw f (x .3)))
+
+  -- in a day it is 0 exactly where none does
+  pub latest-zero : (day : List Record) → (latest passes (events day) ≡ 0) ↔ (anyIn passes (events day) ≡ false)
+  latest-zero day = (
+    λ q. false-of-not (anyIn passes (events day)) (λ t. let x = latest-found (events day) t in omega (arith, number-bounds day (x .1), x .3)),
+    latest-none (events day),
+  )
+
+  pub latest-some : (day : List Record) → (latest passes (events day) ≡ 0 → ⊥) → anyIn passes (events day) ≡ true
+  latest-some day h = true-of-not (anyIn passes (events day)) (λ f. h (latest-none (events day) f))
+
+  -- it is at most the last number
+  pub latest-at-most : (day : List Record) → latest passes (events day) ≤ length day
+  latest-at-most day =
+      split (anyIn passes (events day))
+      (λ t. let x = latest-found (events day) t in omega (arith, number-bounds day (x .1), x .3))
+      (λ f. omega (arith, latest-none (events day) f))
+
+  -- and if all that pass are a transaction's it is no older than that
+  pub latest-bound : (day : List Record) (t : ℕ) → ((e : Event) → passes e ≡ true → e .who ≡ t) → anyIn passes (events day) ≡ true
+      → t ≤ latest passes (events day)
+  latest-bound day t own q =
+      let x = latest-found (events day) q in
+      omega (arith, who-bound day (x .1), own (x .0) (x .2), x .3)
+
+-- ---- commit and moment
+
+module _ (day : List Record) (t : ℕ) where
+  -- its events that commit, and those that move the moment before
+  abbrev commits-it : Event → Bool
+  commits-it e = eqb (e .who) t && kind-commits (e .kind)
+
+  abbrev reads-it : Event → Bool
+  reads-it e = eqb (e .who) t && moves-moment (e .kind)
+
+  -- what asks first for the transaction passes only its own events
+  own : (test : Event → Bool) (e : Event) → eqb (e .who) t && test e ≡ true → e .who ≡ t
+  own test e p = eqb-true (e .who) t (and-left (eqb (e .who) t) (test e) p)
+
+  -- there is no commit record exactly if the transaction is not committed
+  pub commit-none : (commit-of (events day) t ≡ 0) ↔ (committed (events day) t ≡ false)
+  unfolding commit-of committed
+  commit-none = latest-zero commits-it day
+
+  -- else it is no older than the transaction, and a number of the day
+  pub commit-bound : committed (events day) t ≡ true → t ≤ commit-of (events day) t
+  unfolding commit-of committed
+  commit-bound = latest-bound commits-it day t (own (λ e. kind-commits (e .kind)))
+
+  pub commit-at-most : commit-of (events day) t ≤ length day
+  unfolding commit-of
+  commit-at-most = latest-at-most commits-it day
+
+  -- so with the moment
+  pub moment-bound : t ≤ moment-of (events day) t
+  unfolding moment-of
+  moment-bound =
+      let read = latest reads-it (events day) in
+      split (committed (events day) t) (λ c. rw c (commit-bound c))
+      (λ c. rw c (split (eqb read 0) (λ q. rw q (le-refl t)) (λ q. rw q (bound (latest-some reads-it day (eqb-false read 0 q))))))
+    where
+      bound : anyIn reads-it (events day) ≡ true → t ≤ latest reads-it (events day)
+      bound = latest-bound reads-it day t (own (λ e. moves-moment (e .kind)))
+
+  pub moment-at-most : t ≤ length day → moment-of (events day) t ≤ length day
+  unfolding moment-of commit-of
+  moment-at-most h =
+      let read = latest reads-it (events day) in
+      split (committed (events day) t) (λ c. rw c (latest-at-most commits-it day))
+      (λ c. rw c (split (eqb read 0) (λ q. rw q h) (λ q. rw q (latest-at-most reads-it day))))
+
+-- the commit record is the number of the committing event
+pub commit-of-event : (z : Size) (day : List Record) {e : Event} → walks z day ≡ true → List·Memᴰ e (events day) → kind-commits (e .kind) ≡ true
+    → commit-of (events day) (e .who) ≡ e .number
+unfolding commit-of
+commit-of-event z day {e} w m c =
+    let passes = commits-it day (e .who) in
+    let own-test = and-both (eqb (e .who) (e .who)) (kind-commits (e .kind)) (eq-eqb (e .who) (e .who) refl) c in
+    let x = latest-found passes (events day) (any-in-of passes (events day) m own-test) in
+    let f = x .0 in
+    let it-commits = and-right (eqb (f .who) (e .who)) (kind-commits (f .kind)) (x .2) in
+    let its-own = own day (e .who) (λ g. kind-commits (g .kind)) f (x .2) in
+    x .3 ∙ ap (λ g. g .number) (commits-unique z day w (x .1) m it-commits c its-own)

@@ -1,0 +1,54 @@
+-- The theorems about the rules, each under the statement that `specs/` gives it. Assumes nothing.
+use mathlib.Core.Path.{_≡_, _∙_, ap}
+use Rattle.rules.specs.Daylog.{standing, day-of}
+use Rattle.rules.specs.Trials.{Trials}
+use Rattle.rules.specs.CaseA.{CaseALog}
+use Rattle.rules.specs.Statements.{SoundnessSays, LayoutSays, LogReadsBack, ResultsUnique, RefusalsChangeNothing, Conflicts, GivenOrders}
+use Rattle.rules.proofs.CaseA
+use Rattle.rules.proofs.Conflict
+use Rattle.rules.proofs.Daylog
+use Rattle.rules.proofs.Encoding
+use Rattle.rules.proofs.Judging
+use Rattle.rules.proofs.LaidOut
+use Rattle.rules.proofs.Reasons
+use Rattle.rules.proofs.Sound
+use Rattle.rules.proofs.Trials
+
+-- the nine trials marked ●, and case A from its log alone
+pub trials : Trials
+trials = Trials.trials
+
+pub case-a-log : CaseALog
+case-a-log = CaseA.case-a-log
+
+-- tests say what the rules say
+pub soundness-says : SoundnessSays
+soundness-says = Sound.sound-says
+
+pub layout-says : LayoutSays
+layout-says = LaidOut.layout-says
+
+-- records, days and logs read back
+pub log-reads-back : LogReadsBack
+log-reads-back =
+    record {
+      record-back = Encoding.decode-encode;
+      bytes-back = Encoding.encode-decode;
+      day-back = λ day p. ap (day-of (standing day)) (Daylog.records-in-standing day p) ∙ Daylog.day-of-standing day p;
+      log-back = LaidOut.laid-out-standing;
+      day-laid-out = LaidOut.standing-laid-out;
+    }
+
+-- rules are functions, a refusal other than 9 changes nothing, and Conflict comes exactly when it must
+pub results-unique : ResultsUnique
+results-unique = Reasons.results-unique
+
+pub refusals-change-nothing : RefusalsChangeNothing
+refusals-change-nothing = Reasons.refusals-change-nothing
+
+pub conflicts : Conflicts
+conflicts = Conflict.conflicts
+
+-- the given order
+pub given-orders : GivenOrders
+given-orders = Judging.given-orders
