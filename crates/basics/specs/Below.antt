@@ -2,7 +2,7 @@
 -- A limit of n means the numbers 0, 1, .., n - 1. A search that finds nothing answers the limit itself.
 use Prim.Native.Nat.{ℕ, zero, suc, _+_, max}
 use mathlib.Core.Bool.{Bool, true, false, cond, _&&_, _||_}
-use lib.Dec.{ltb, eqb}
+use lib.Dec.{ltb}
 
 -- each number below the limit passes
 unfoldable pub allBelow : (ℕ → Bool) → ℕ → Bool

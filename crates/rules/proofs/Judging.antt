@@ -11,8 +11,7 @@ use Rattle.basics.proofs.Walk.{first-step}
 use Rattle.basics.proofs.Eliminated.{eliminated-takes, eliminated-unique, eliminated-members, eliminated-distinct, eliminated-keeps, eliminated-exactly, eliminated-no-cycle, not-all-cycle, cycle-not-all}
 use Rattle.rules.specs.Sizes.{Size}
 use Rattle.rules.specs.Books.{Books, place-at, is-live, is-committed, is-held}
-use Rattle.rules.specs.Sound.{Sound}
-use Rattle.rules.specs.Judging.{moment, company, stands-before, HasCycle, has-cycle, given-places}
+use Rattle.rules.specs.Judging.{company, stands-before, HasCycle, has-cycle, given-places}
 use Rattle.rules.specs.Statements.{GivenOrder, GivenOrders}
 
 module _ (z : Size) (b : Books) (i : ℕ) where
@@ -29,7 +28,7 @@ module _ (z : Size) (b : Books) (i : ℕ) where
   unfolding has-cycle
   test-of-cycle c = rw (cycle-not-all (z .places) (stands-before z b) begin-of (company z b i) c)
 
-  -- everybody in the company is held, where place i is
+  -- everybody in the company is held, where place i is: a place that is not held passes no test of being live or committed
   company-held : is-held (place-at b i) ≡ true → (k : ℕ) → company z b i k ≡ true → is-held (place-at b k) ≡ true
   unfolding company
   company-held held k e =
@@ -43,12 +42,12 @@ module _ (z : Size) (b : Books) (i : ℕ) where
       record {
         cycle-told = (cycle-of-test, test-of-cycle);
         everybody = (
-          λ none k h e. eliminated-exactly (z .places) (stands-before z b) begin-of (company z b i) none k .1 (h, e),
-          λ all c. let s = first-step (c .1) .1 in clash (all (c .0) (s .0) (s .2)) (eliminated-no-cycle (z .places) (stands-before z b) begin-of (company z b i) (c .1)),
+          λ none k h e. eliminated-exactly (z .places) (stands-before z b) _ (company z b i) none k .1 (h, e),
+          λ all c. let s = first-step (c .1) .1 in clash (all (c .0) (s .0) (s .2)) (eliminated-no-cycle (z .places) (stands-before z b) _ (company z b i) (c .1)),
         );
-        nobody-else = eliminated-members (z .places) (stands-before z b) begin-of (company z b i);
-        nobody-twice = eliminated-distinct (z .places) (stands-before z b) begin-of (company z b i);
-        pairs-kept = eliminated-keeps (z .places) (stands-before z b) begin-of (company z b i);
+        nobody-else = eliminated-members (z .places) (stands-before z b) _ (company z b i);
+        nobody-twice = eliminated-distinct (z .places) (stands-before z b) _ (company z b i);
+        pairs-kept = eliminated-keeps (z .places) (stands-before z b) _ (company z b i);
         takes-lowest = eliminated-takes (z .places) (stands-before z b) begin-of (company z b i);
         only-one = λ s h held order t. sym (eliminated-unique (z .places) (stands-before z b) begin-of (company z b i) (λ j k hj hk ej ek same. s .begins-differ j k hj hk (company-held held j ej) (company-held held k ek) same) order t);
       }

@@ -1,6 +1,6 @@
 -- Reasons and refusals: the first reason that applies is the answer, and a refusal other than 9 changes nothing, for every call as one law.
 -- Assumes nothing.
-use mathlib.Core.Path.{_≡_, refl, sym, ap, _∙_}
+use mathlib.Core.Path.{_≡_, refl, sym, ap, ap₂, _∙_}
 use mathlib.Core.Logic.{_≢_, _⊎_, inl, inr, ⊎-elim}
 use Prim.Native.Nat.{ℕ, _<_}
 use native.Mathlib.Omega.{arith}
@@ -11,15 +11,15 @@ use borrow.Author.Tests.{ltb-true, eqb-true, eq-eqb}
 use Rattle.basics.specs.Lists.{allIn, anyIn}
 use Rattle.basics.proofs.Bools.{split, clash, and-left, and-right, or-false-left, or-false-right}
 use Rattle.rules.specs.Sizes.{Size}
-use Rattle.rules.specs.Books.{place-at, wrote}
+use Rattle.rules.specs.Books.{Books, place-at, wrote}
 use Rattle.rules.specs.Handles.{place-of}
 use Rattle.rules.specs.Judging.{has-cycle}
-use Rattle.rules.specs.Daylog.{read-conflict-kind, commit-conflict-kind}
 use Rattle.rules.specs.Numbers.{granted, conflict, Reason, first-reason}
 use Rattle.rules.specs.State.{State, Outcome, refused, unless-refused, recorded}
-use Rattle.rules.specs.Steps.{turned-back, read-books, granted-read-of, judged-read-of, own-read-of, commit-books, granted-commit-of, judged-commit-of, open-rule, begin-rule, write-rule, read-rule, show-rule, commit-rule, give-up-rule, post-rule, order-rule, close-rule}
-use Rattle.rules.specs.Run.{Call, Open, Begin, Write, Read, Show, Commit, GiveUp, Post, Order, Close, Machine, outcome, moved-on, after-call}
-use Rattle.rules.specs.Statements.{ChangesNothing, RefusalsChangeNothing, ResultsUnique}
+use Rattle.rules.specs.Steps.{show-reasons, order-reasons, turned-back, weighed, granted-read-of, judged-read-of, own-read-of, granted-commit-of, judged-commit-of, open-rule, begin-rule, write-rule, read-rule, show-rule, commit-rule, give-up-rule, post-rule, order-rule, close-rule}
+use Rattle.rules.specs.Calls.{Call, Open, Begin, Write, Read, Show, Commit, GiveUp, Post, Order, Close, Lending, issued}
+use Rattle.rules.specs.Run.{Machine, moved-on, after-call}
+use Rattle.rules.specs.Statements.{Looks, ChangesNothing, RefusalsChangeNothing, ResultsUnique}
 
 -- ---- the first reason
 
@@ -46,79 +46,108 @@ none-applies (r ∷ later) positive e =
     split (r .applies) (λ t. let h : 0 < r .number = ltb-true 0 (r .number) (and-left (ltb 0 (r .number)) _ positive) in let z : r .number ≡ 0 = rw t at e in absurd (omega arith))
     (λ f. rw f (none-applies later (and-right (ltb 0 (r .number)) _ positive) (rw f at e)))
 
+-- what holds of each reason's number and of 0 holds of the answer
+pub first-among : (p : ℕ → Bool) (reasons : List Reason) → p granted ≡ true → allIn (λ r. p (r .number)) reasons ≡ true → p (first-reason reasons) ≡ true
+unfolding first-reason allIn
+first-among p [] zero e = zero
+first-among p (r ∷ later) zero e =
+    split (r .applies) (λ t. rw t (and-left (p (r .number)) _ e)) (λ f. rw f (first-among p later zero (and-right (p (r .number)) _ e)))
+
 -- ---- a rule's outcome
 
--- either no reason applies and the outcome stands, or the call is refused
-pub refused-or-not : (reasons : List Reason) (s : State) (o : Outcome) →
-    ((first-reason reasons ≡ granted) × (unless-refused reasons s o ≡ o)) ⊎ ((first-reason reasons ≢ granted) × (unless-refused reasons s o ≡ refused (first-reason reasons) s))
-unfolding unless-refused
-refused-or-not reasons s o =
-    split (eqb (first-reason reasons) 0) (λ e. inl (eqb-true (first-reason reasons) 0 e, rw e)) (λ e. inr (λ q. clash (eq-eqb (first-reason reasons) 0 q) e, rw e))
+module _ (reasons : List Reason) (s : State) (o : Outcome) where
+  -- either no reason applies and the outcome stands, or the call is refused
+  pub refused-or-not : ((first-reason reasons ≡ granted) × (unless-refused reasons s o ≡ o)) ⊎ ((first-reason reasons ≢ granted) × (unless-refused reasons s o ≡ refused (first-reason reasons) s))
+  unfolding unless-refused
+  refused-or-not =
+      split (eqb (first-reason reasons) 0) (λ e. inl (eqb-true (first-reason reasons) 0 e, rw e)) (λ e. inr (λ q. clash (eq-eqb (first-reason reasons) 0 q) e, rw e))
+
+  -- a refusal changes nothing
+  refused-changes-nothing : (n : ℕ) (x : Outcome) → x ≡ refused n s → ChangesNothing s x
+  unfolding refused
+  refused-changes-nothing n x e =
+      record {
+        no-answer = ap (λ y. y .answer) e;
+        no-order = ap (λ y. y .order) e;
+        nothing-shown = ap (λ y. y .shown) e;
+        state-stays = ap (λ y. y .after) e;
+        nothing-added = ap (λ y. y .entry) e;
+      }
+
+  -- so a number that the outcome itself does not have is a refusal's
+  other-number : unless-refused reasons s o .number ≢ o .number → ChangesNothing s (unless-refused reasons s o)
+  other-number n =
+      ⊎-elim (λ g. absurd (n (ap (λ x. x .number) (g .1)))) (λ g. refused-changes-nothing (first-reason reasons) (unless-refused reasons s o) (g .1)) refused-or-not
+
+  -- an outcome that only looks does so refused or not
+  looks-either-way : Looks s o → Looks s (unless-refused reasons s o)
+  unfolding refused
+  looks-either-way h = ⊎-elim (λ g. rw (g .1) h) (λ g. rw (g .1) (refl, refl)) refused-or-not
+
+-- ---- every call
+
+-- a refusal other than 9 changes nothing
+abbrev Unchanged : State → Outcome → Type 0
+Unchanged s o = o .number ≢ granted → o .number ≢ conflict → ChangesNothing s o
 
 -- an outcome that is granted or met Conflict
 abbrev Settled : Outcome → Type 0
 Settled o = (o .number ≡ granted) ⊎ (o .number ≡ conflict)
 
--- a refusal answers its number and nothing else, and leaves the state
-abbrev Unchanged : State → Outcome → Type 0
-Unchanged s o = o .number ≢ granted → o .number ≢ conflict → o ≡ refused (o .number) s
-
 unchanged : (reasons : List Reason) (s : State) (o : Outcome) → Settled o → Unchanged s (unless-refused reasons s o)
-unfolding refused
-unchanged reasons s o settled =
-    ⊎-elim (λ g. rw (g .1) (λ n k. absurd (⊎-elim n k settled))) (λ g. rw (g .1) (λ n k. refl)) (refused-or-not reasons s o)
+unchanged reasons s o settled n k = other-number reasons s o (λ e. ⊎-elim (λ g. n (e ∙ g)) (λ c. k (e ∙ c)) settled)
 
 -- one of two settled outcomes
 settled-either : (t : Bool) (one other : Outcome) → Settled one → Settled other → Settled (cond t one other)
 settled-either true one other h k = h
 settled-either false one other h k = k
 
--- ---- every call
-
 -- a judged read or commit is granted or meets Conflict
+settled-weighed : (z : Size) (b : Books) (i : ℕ) (back on : Outcome) → Settled back → Settled on → Settled (weighed z b i back on)
+unfolding weighed
+settled-weighed z b i back on h k = settled-either (has-cycle z b i) back on h k
+
 settled-read : (z : Size) (s : State) (i c : ℕ) → Settled (judged-read-of z s i c)
 unfolding judged-read-of turned-back granted-read-of recorded
-settled-read z s i c =
-    settled-either (has-cycle z (read-books z (s .books) i c) i) (turned-back s read-conflict-kind i c) (granted-read-of z s i c) (inr refl) (inl refl)
+settled-read z s i c = settled-weighed z _ i _ _ (inr refl) (inl refl)
 
 settled-commit : (z : Size) (s : State) (i : ℕ) → Settled (judged-commit-of z s i)
 unfolding judged-commit-of turned-back granted-commit-of recorded
-settled-commit z s i =
-    settled-either (has-cycle z (commit-books z (s .books) i) i) (turned-back s commit-conflict-kind i 0) (granted-commit-of z s i) (inr refl) (inl refl)
+settled-commit z s i = settled-weighed z _ i _ _ (inr refl) (inl refl)
 
--- a refusal other than 9 leaves the state and adds nothing, whatever the call
-refusal-unchanged : (z : Size) (c : Call) (m : Machine) → Unchanged (m .state) (outcome z c m)
-unfolding outcome open-rule begin-rule write-rule read-rule show-rule commit-rule give-up-rule post-rule order-rule close-rule recorded own-read-of
-refusal-unchanged z Open m = λ n k. absurd (n refl)
-refusal-unchanged z Begin m = unchanged _ _ _ (inl refl)
-refusal-unchanged z (Write h c value) m = unchanged _ _ _ (inl refl)
-refusal-unchanged z (Read h c) m =
+refusal-unchanged : (z : Size) (l : Lending) (c : Call) (s : State) → Unchanged s (issued z l c s)
+unfolding issued open-rule begin-rule write-rule read-rule show-rule commit-rule give-up-rule post-rule order-rule close-rule recorded own-read-of
+refusal-unchanged z l Open s = λ n k. absurd (n refl)
+refusal-unchanged z l Begin s = unchanged _ _ _ (inl refl)
+refusal-unchanged z l (Write h c value) s = unchanged _ _ _ (inl refl)
+refusal-unchanged z l (Read h c) s =
     unchanged _ _ _
-    (settled-either (wrote (place-at (m .state .books) (place-of h)) c) (own-read-of z (m .state) (place-of h) c) (judged-read-of z (m .state) (place-of h) c) (inl refl)
-    (settled-read z (m .state) (place-of h) c))
-refusal-unchanged z (Show given h c) m = unchanged _ _ _ (inl refl)
-refusal-unchanged z (Commit h) m = unchanged _ _ _ (settled-commit z (m .state) (place-of h))
-refusal-unchanged z (GiveUp h) m = unchanged _ _ _ (inl refl)
-refusal-unchanged z (Post c value) m = unchanged _ _ _ (inl refl)
-refusal-unchanged z (Order h) m = unchanged _ _ _ (inl refl)
-refusal-unchanged z Close m = unchanged _ _ _ (inl refl)
+    (settled-either (wrote (place-at (s .books) (place-of h)) c) (own-read-of z s (place-of h) c) (judged-read-of z s (place-of h) c) (inl refl) (settled-read z s (place-of h) c))
+refusal-unchanged z l (Show given h c) s = unchanged _ _ _ (inl refl)
+refusal-unchanged z l (Commit h) s = unchanged _ _ _ (settled-commit z s (place-of h))
+refusal-unchanged z l (GiveUp h) s = unchanged _ _ _ (inl refl)
+refusal-unchanged z l (Post c value) s = unchanged _ _ _ (inl refl)
+refusal-unchanged z l (Order h) s = unchanged _ _ _ (inl refl)
+refusal-unchanged z l Close s = unchanged _ _ _ (inl refl)
 
--- what a refusal is
-refused-changes-nothing : (m : Machine) (n : ℕ) (o : Outcome) → o ≡ refused n (m .state) → ChangesNothing m o
-unfolding after-call moved-on refused
-refused-changes-nothing m n o e =
-    record {
-      no-answer = ap (λ x. x .answer) e;
-      no-order = ap (λ x. x .order) e;
-      nothing-shown = ap (λ x. x .shown) e;
-      state-stays = ap (λ x. x .after) e;
-      nothing-added = ap (λ x. x .entry) e;
-      machine-stays = ap (after-call m) e;
-    }
+-- a show that shows nothing changes nothing, and order and show only look
+show-refused : (z : Size) (l : Lending) (given h c : ℕ) (s : State) → issued z l (Show given h c) s .number ≢ granted → ChangesNothing s (issued z l (Show given h c) s)
+unfolding issued show-rule
+show-refused z l given h c s n = other-number (show-reasons z s given h c) s _ n
+
+looks : (z : Size) (l : Lending) (given h c : ℕ) (s : State) → Looks s (issued z l (Order h) s) × Looks s (issued z l (Show given h c) s)
+unfolding issued order-rule show-rule
+looks z l given h c s =
+    (looks-either-way (order-reasons z (l .buffer) s h) s _ (refl, refl), looks-either-way (show-reasons z s given h c) s _ (refl, refl))
+
+-- the machine after a call that changes nothing is the machine
+machine-stays : (m : Machine) (o : Outcome) → ChangesNothing (m .state) o → after-call m o ≡ m
+unfolding after-call moved-on
+machine-stays m o h = ap₂ (moved-on m) (h .state-stays) (h .nothing-added)
 
 pub refusals-change-nothing : RefusalsChangeNothing
-refusals-change-nothing z c m n k = refused-changes-nothing m (outcome z c m .number) (outcome z c m) (refusal-unchanged z c m n k)
+refusals-change-nothing = record { every-call = refusal-unchanged; showing = show-refused; looking = looks; machine-stays = machine-stays }
 
 -- a rule is a function: two results that meet it are equal
 pub results-unique : ResultsUnique
-results-unique z c m one other p q = p ∙ sym q
+results-unique z l c s one other p q = p ∙ sym q

@@ -1,12 +1,10 @@
 -- The shape of the books: which changes keep it, and what stands at a place after a change. Assumes nothing.
-use Prim.Native.Nat.{ℕ, zero, suc, _<_}
+use Prim.Native.Nat.{ℕ, _<_}
 use mathlib.Core.Path.{_≡_, refl, sym, _∙_, subst}
 use mathlib.Core.Logic.{_≢_}
 use mathlib.Core.Bool.{true, false}
-use mathlib.Core.List.{List, [], _∷_, map}
-use lib.ListN.{length, getD, replicate, length-set, length-map, getD-replicate}
+use lib.ListN.{length, replicate, length-set, length-map, getD-replicate}
 use lib.Seq.{getD-set-same, getD-set-other}
-use native.Mathlib.Nat.{not-suc-le-zero, le-of-suc-le-suc}
 use native.Mathlib.Omega.{arith}
 use Rattle.basics.proofs.Bools.{equal-or-not}
 use Rattle.basics.proofs.Elements.{getD-map-within}

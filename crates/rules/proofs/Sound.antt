@@ -10,7 +10,7 @@ use native.Mathlib.Omega.{arith}
 use Rattle.rules.specs.declared.Place.{Place}
 use Rattle.rules.specs.Sizes.{Size, most-records}
 use Rattle.rules.specs.Books.{Books, place-at, is-free, is-live, is-committed, is-held, wrote, first-read, last-read, room-taken}
-use Rattle.rules.specs.Sound.{is-clear, reads-sound, held-sound, commit-sound, place-sound, differ, sound, SoundPlace, Sound}
+use Rattle.rules.specs.Sound.{cells-clear, is-clear, reads-sound, held-sound, commit-sound, place-sound, differ, sound, SoundPlace, Sound}
 use Rattle.basics.proofs.Says.{eqb-says, leb-says, not-says, not-says-not, and-says, or-says, cond-says, all-says}
 
 -- ---- one place
@@ -39,7 +39,7 @@ ReadsOrdered p c = ((first-read p c ≡ 0) × (last-read p c ≡ 0)) ⊎ ((first
 module _ (z : Size) (records : ℕ) (p : Place) where
   -- each test of a part says it
   clear-says : (is-clear z p ≡ true) ↔ Clear z p
-  unfolding is-clear
+  unfolding is-clear cells-clear
   clear-says =
       and-says (eqb-says (p .begin) 0)
       (and-says (eqb-says (p .commit) 0)

@@ -1,5 +1,5 @@
 -- The theorems about the rules, each under the statement that `specs/` gives it. Assumes nothing.
-use mathlib.Core.Path.{_≡_, _∙_, ap}
+use mathlib.Core.Path.{_∙_, ap}
 use Rattle.rules.specs.Daylog.{standing, day-of}
 use Rattle.rules.specs.Trials.{Trials}
 use Rattle.rules.specs.CaseA.{CaseALog}

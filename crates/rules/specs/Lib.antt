@@ -1,4 +1,5 @@
 pub mod Books
+pub mod Calls
 pub mod CaseA
 pub mod Cells
 pub mod Checker

@@ -1,6 +1,6 @@
 -- Document 01, "Report program": the lines, as bytes of text.
 use Prim.Native.Nat.{ℕ}
-use mathlib.Core.Bool.{Bool, not, cond}
+use mathlib.Core.Bool.{not, cond}
 use mathlib.Core.List.{List, [], _∷_, _++_}
 use lib.ListN.{length, drop}
 use lib.Dec.{ltb}
@@ -9,15 +9,15 @@ use Rattle.rules.specs.Sizes.{Size, table-bytes}
 use Rattle.rules.specs.Numbers.{lent, bad-log}
 use Rattle.rules.specs.Daylog.{kind-starts, records-in, day-of, commit-total}
 use Rattle.rules.specs.Layout.{well-laid-out}
-use Rattle.rules.specs.Day.{Event, events, moment-of, Standing, live, committed-one, gave-up, conflict-one, post-one, stands}
+use Rattle.rules.specs.Day.{Event, events, moment-of, Standing, stands-live, stands-committed, stands-gaveup, stands-conflict, stands-post, stands}
 
 -- how it stands
 unfoldable pub standing-word : Standing → List ℕ
-standing-word live = text "live"
-standing-word committed-one = text "committed"
-standing-word gave-up = text "gaveup"
-standing-word conflict-one = text "conflict"
-standing-word post-one = text "post"
+standing-word stands-live = text "live"
+standing-word stands-committed = text "committed"
+standing-word stands-gaveup = text "gaveup"
+standing-word stands-conflict = text "conflict"
+standing-word stands-post = text "post"
 
 -- first line: records, commits with posts
 unfoldable pub first-line : ℕ → ℕ → List ℕ

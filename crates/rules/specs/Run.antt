@@ -7,20 +7,7 @@ use Rattle.rules.specs.Sizes.{Size, table-bytes, drafts-bytes, log-bytes
 use Rattle.rules.specs.Books.{opened}
 use Rattle.rules.specs.Daylog.{commit-total}
 use Rattle.rules.specs.State.{State, Entry, nothing, adds, closes, opens, Outcome}
-use Rattle.rules.specs.Steps.{open-rule, begin-rule, write-rule, read-rule, show-rule, commit-rule, give-up-rule, post-rule, order-rule, close-rule}
-
--- the ten calls, with a handle, a cell, a value, or the number that a read gave
-pub data Call : Type 0 where
-  Open : Call
-  Begin : Call
-  Write : ℕ → ℕ → List ℕ → Call
-  Read : ℕ → ℕ → Call
-  Show : ℕ → ℕ → ℕ → Call
-  Commit : ℕ → Call
-  GiveUp : ℕ → Call
-  Post : ℕ → List ℕ → Call
-  Order : ℕ → Call
-  Close : Call
+use Rattle.rules.specs.Calls.{Call, Lending, issued}
 
 -- the books, table and drafts; the records since the opening or the last close, the newest first; and the table as it was then
 pub record Machine : Type 0 where
@@ -28,18 +15,13 @@ pub record Machine : Type 0 where
   pub day : List Record
   pub opening : List ℕ
 
--- the outcome of a call, by its step rule; the lent log and order buffer have the right lengths
+-- what a call on the machine is lent: a log and an order buffer of the right lengths, the log with the day's records
+abbrev pub lends : Size → Machine → Lending
+lends z m = record { log = log-bytes; buffer = order-numbers z; total = commit-total (m .day) }
+
+-- the outcome of a call on the machine
 unfoldable pub outcome : Size → Call → Machine → Outcome
-outcome z Open m = open-rule (m .state)
-outcome z Begin m = begin-rule z log-bytes (m .state)
-outcome z (Write h c value) m = write-rule z log-bytes (m .state) h c value
-outcome z (Read h c) m = read-rule z log-bytes (m .state) h c
-outcome z (Show given h c) m = show-rule z (m .state) given h c
-outcome z (Commit h) m = commit-rule z log-bytes (m .state) h
-outcome z (GiveUp h) m = give-up-rule z log-bytes (m .state) h
-outcome z (Post c value) m = post-rule z log-bytes (m .state) c value
-outcome z (Order h) m = order-rule z (order-numbers z) (m .state) h
-outcome z Close m = close-rule z log-bytes (commit-total (m .day)) (m .state)
+outcome z c m = issued z (lends z m) c (m .state)
 
 -- a new day begins with the table as it is
 unfoldable pub new-day : State → Machine

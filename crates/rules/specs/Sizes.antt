@@ -1,5 +1,5 @@
 -- Document 01, "Sizes": the numbers of places and cells, and the lengths and limits that follow from them.
-use Prim.Native.Nat.{ℕ, _+_, _*_, _^_}
+use Prim.Native.Nat.{ℕ, _+_, _*_}
 
 -- how many places for transactions, and how many cells, a controller has
 pub record Size : Type 0 where

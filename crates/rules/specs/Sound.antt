@@ -3,6 +3,8 @@ use Prim.Native.Nat.{ℕ, _≤_, _<_}
 use mathlib.Core.Path.{_≡_}
 use mathlib.Core.Logic.{_⊎_}
 use mathlib.Core.Bool.{Bool, true, false, not, cond, _&&_, _||_}
+use mathlib.Core.List.{List}
+use lib.ListN.{getD}
 use lib.Dec.{leb, eqb}
 use Rattle.basics.specs.Below.{allBelow}
 use Rattle.rules.specs.declared.Place.{Place}
@@ -11,12 +13,14 @@ use Rattle.rules.specs.Books.{Books, place-at, is-free, is-live, is-comm
 
 -- ---- the test
 
+-- no cell is written, and none was read
+unfoldable pub cells-clear : Size → List Bool → List ℕ → List ℕ → Bool
+cells-clear z written first last =
+    allBelow (λ c. not (getD written c false) && (eqb (getD first c 0) 0 && eqb (getD last c 0) 0)) (z .cells)
+
 -- zero in all but the turn
 unfoldable pub is-clear : Size → Place → Bool
-is-clear z p =
-    eqb (p .begin) 0
-    && (eqb (p .commit) 0
-    && allBelow (λ c. not (wrote p c) && (eqb (first-read p c) 0 && eqb (last-read p c) 0)) (z .cells))
+is-clear z p = eqb (p .begin) 0 && (eqb (p .commit) 0 && cells-clear z (p .written) (p .first) (p .last))
 
 -- first and last read of a cell: both 0, or begin ≤ first ≤ last ≤ records
 unfoldable pub reads-sound : ℕ → Place → ℕ → Bool

@@ -9,7 +9,7 @@ use Rattle.basics.specs.Bytes.{AreBytes}
 use Rattle.basics.specs.Lists.{member, distinct, keeps}
 use Rattle.basics.specs.Elimination.{TakesLowest}
 use Rattle.rules.specs.declared.Record.{Record}
-use Rattle.rules.specs.Sizes.{Size, record-bytes, most-records, log-bytes}
+use Rattle.rules.specs.Sizes.{Size, record-bytes, most-records}
 use Rattle.rules.specs.Books.{Books, place-at, is-held, wrote, freed, with-place}
 use Rattle.rules.specs.Handles.{place-of}
 use Rattle.rules.specs.Sound.{sound, Sound}
@@ -19,7 +19,8 @@ use Rattle.rules.specs.Daylog.{Proper, AllProper, read-conflict-kind, co
 use Rattle.rules.specs.State.{State, Outcome, nothing, adds, empty}
 use Rattle.rules.specs.Layout.{walks, well-laid-out, WellLaidOut}
 use Rattle.rules.specs.Steps.{record-at, read-reasons, read-books, commit-reasons, commit-books}
-use Rattle.rules.specs.Run.{Call, Read, Commit, Machine, outcome, after-call}
+use Rattle.rules.specs.Calls.{Call, Open, Begin, Write, Read, Show, Commit, GiveUp, Post, Order, Close, Lending, issued}
+use Rattle.rules.specs.Run.{Machine, after-call}
 
 -- the test of soundness says what the clauses say
 abbrev pub SoundnessSays : Type 0
@@ -42,41 +43,68 @@ pub record LogReadsBack : Type 0 where
 
 -- two results of a call are equal
 abbrev pub ResultsUnique : Type 0
-ResultsUnique = (z : Size) (c : Call) (m : Machine) (one other : Outcome) → one ≡ outcome z c m → other ≡ outcome z c m → one ≡ other
+ResultsUnique = (z : Size) (l : Lending) (c : Call) (s : State) (one other : Outcome) → one ≡ issued z l c s → other ≡ issued z l c s → one ≡ other
 
--- a refusal other than 9 answers its number and nothing else, and changes nothing
-pub record ChangesNothing (m : Machine) (o : Outcome) : Type 0 where
+-- a refusal answers its number and nothing else, and changes nothing
+pub record ChangesNothing (s : State) (o : Outcome) : Type 0 where
   pub no-answer : o .answer ≡ 0
   pub no-order : o .order ≡ []
   pub nothing-shown : o .shown ≡ empty
-  pub state-stays : o .after ≡ m .state
+  pub state-stays : o .after ≡ s
   pub nothing-added : o .entry ≡ nothing
-  pub machine-stays : after-call m o ≡ m
 
-abbrev pub RefusalsChangeNothing : Type 0
-RefusalsChangeNothing = (z : Size) (c : Call) (m : Machine) → outcome z c m .number ≢ granted → outcome z c m .number ≢ conflict → ChangesNothing m (outcome z c m)
+-- a call that only looks: the state stays and nothing is added
+abbrev pub Looks : State → Outcome → Type 0
+Looks s o = (o .after ≡ s) × (o .entry ≡ nothing)
 
--- Conflict ends the transaction at place i, frees its place and adds one record of the kind; nothing else changes
+pub record RefusalsChangeNothing : Type 0 where
+  -- a refusal other than 9, whatever the call, the books and the buffers
+  pub every-call : (z : Size) (l : Lending) (c : Call) (s : State) → issued z l c s .number ≢ granted → issued z l c s .number ≢ conflict → ChangesNothing s (issued z l c s)
+  -- a show that shows nothing, whichever number the read gave
+  pub showing : (z : Size) (l : Lending) (given h c : ℕ) (s : State) → issued z l (Show given h c) s .number ≢ granted → ChangesNothing s (issued z l (Show given h c) s)
+  -- order and show leave the state and the log, granted too
+  pub looking : (z : Size) (l : Lending) (given h c : ℕ) (s : State) → Looks s (issued z l (Order h) s) × Looks s (issued z l (Show given h c) s)
+  -- a machine stays as it is where a call changes nothing
+  pub machine-stays : (m : Machine) (o : Outcome) → ChangesNothing (m .state) o → after-call m o ≡ m
+
+-- Conflict ends the transaction at place i, frees its place and adds one record of the kind; it answers nothing else, and nothing else changes
 pub record TurnsBack (s : State) (kind i c : ℕ) (o : Outcome) : Type 0 where
   pub no-answer : o .answer ≡ 0
+  pub no-order : o .order ≡ []
+  pub nothing-shown : o .shown ≡ empty
   pub place-freed : o .after .books ≡ with-place (s .books) i (freed (place-at (s .books) i))
   pub table-stays : o .after .table ≡ s .table
   pub drafts-stay : o .after .drafts ≡ s .drafts
   pub one-record : o .entry ≡ adds (record-at kind i (place-at (s .books) i) c no-value)
 
 -- a read meets Conflict exactly if it meets none of 1 to 7, its cell is not written, and with itself counted as granted the pairs contain a cycle
-pub record ReadConflict (z : Size) (m : Machine) (h c : ℕ) : Type 0 where
-  pub exactly : (outcome z (Read h c) m .number ≡ conflict) ↔ ((first-reason (read-reasons z log-bytes (m .state) h c) ≡ granted) × (wrote (place-at (m .state .books) (place-of h)) c ≡ false) × HasCycle z (read-books z (m .state .books) (place-of h) c) (place-of h))
-  pub turns-back : outcome z (Read h c) m .number ≡ conflict → TurnsBack (m .state) read-conflict-kind (place-of h) c (outcome z (Read h c) m)
+pub record ReadConflict (z : Size) (l : Lending) (s : State) (h c : ℕ) : Type 0 where
+  pub exactly : (issued z l (Read h c) s .number ≡ conflict) ↔ ((first-reason (read-reasons z (l .log) s h c) ≡ granted) × (wrote (place-at (s .books) (place-of h)) c ≡ false) × HasCycle z (read-books z (s .books) (place-of h) c) (place-of h))
+  pub turns-back : issued z l (Read h c) s .number ≡ conflict → TurnsBack s read-conflict-kind (place-of h) c (issued z l (Read h c) s)
 
 -- a commit meets Conflict exactly if it meets none of 1 to 4 and, with itself counted as granted, the pairs contain a cycle
-pub record CommitConflict (z : Size) (m : Machine) (h : ℕ) : Type 0 where
-  pub exactly : (outcome z (Commit h) m .number ≡ conflict) ↔ ((first-reason (commit-reasons z log-bytes (m .state) h) ≡ granted) × HasCycle z (commit-books z (m .state .books) (place-of h)) (place-of h))
-  pub turns-back : outcome z (Commit h) m .number ≡ conflict → TurnsBack (m .state) commit-conflict-kind (place-of h) 0 (outcome z (Commit h) m)
+pub record CommitConflict (z : Size) (l : Lending) (s : State) (h : ℕ) : Type 0 where
+  pub exactly : (issued z l (Commit h) s .number ≡ conflict) ↔ ((first-reason (commit-reasons z (l .log) s h) ≡ granted) × HasCycle z (commit-books z (s .books) (place-of h)) (place-of h))
+  pub turns-back : issued z l (Commit h) s .number ≡ conflict → TurnsBack s commit-conflict-kind (place-of h) 0 (issued z l (Commit h) s)
 
+-- read and commit are judged; a show is told what a read was answered
+abbrev pub judged : Call → Bool
+judged Open = false
+judged Begin = false
+judged (Write h c value) = false
+judged (Read h c) = true
+judged (Show given h c) = true
+judged (Commit h) = true
+judged (GiveUp h) = false
+judged (Post c value) = false
+judged (Order h) = false
+judged Close = false
+
+-- no call but these two meets Conflict; a show only hands on the number that it is given
 pub record Conflicts : Type 0 where
-  pub at-read : (z : Size) (m : Machine) (h c : ℕ) → ReadConflict z m h c
-  pub at-commit : (z : Size) (m : Machine) (h : ℕ) → CommitConflict z m h
+  pub at-read : (z : Size) (l : Lending) (s : State) (h c : ℕ) → ReadConflict z l s h c
+  pub at-commit : (z : Size) (l : Lending) (s : State) (h : ℕ) → CommitConflict z l s h
+  pub at-no-other : (z : Size) (l : Lending) (s : State) (c : Call) → judged c ≡ false → issued z l c s .number ≢ conflict
 
 -- the list takes, again and again, among those of the company with nobody left before them, the one with the lowest begin record
 abbrev pub TakesLowestBegin : Size → Books → ℕ → List ℕ → Type 0

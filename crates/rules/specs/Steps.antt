@@ -1,7 +1,7 @@
 -- Document 01, "Step rules" and "Numbers given back": each call's reasons in the order of their numbers, and what it does if none applies.
 -- `log` and `buffer` are the lengths of the lent log and order buffer.
-use Prim.Native.Nat.{ℕ, _+_, _*_}
-use mathlib.Core.Bool.{Bool, not, cond, _||_}
+use Prim.Native.Nat.{ℕ, _+_}
+use mathlib.Core.Bool.{not, cond, _||_}
 use mathlib.Core.List.{List, [], _∷_, _++_}
 use lib.ListN.{length}
 use lib.Dec.{ltb, leb, eqb}
@@ -16,7 +16,7 @@ use Rattle.rules.specs.Judging.{has-cycle, given-order}
 use Rattle.rules.specs.Numbers.{granted, lent, unsound, stale, ended, no-cell, full, log-full, busy, conflict, Reason, _if_, wrong}
 use Rattle.rules.specs.Cells.{cell-of, with-cell, draft-of, with-draft, laid-over}
 use Rattle.rules.specs.Daylog.{begin-kind, judged-read-kind, own-read-kind, write-kind, commit-kind, give-up-kind, read-conflict-kind, commit-conflict-kind, post-kind, no-value}
-use Rattle.rules.specs.State.{State, Shown, empty, Outcome, nothing, closes, opens, unless-refused, refused, recorded, shown-draft, shown-cell}
+use Rattle.rules.specs.State.{State, empty, Outcome, nothing, closes, opens, unless-refused, recorded, shown-draft, shown-cell}
 
 -- the state with other books
 abbrev pub with-books : State → Books → State
@@ -32,6 +32,10 @@ record-at kind i p c value = record { kind = kind; place = i; cell = c; turn = p
 
 -- ---- reasons that several calls share
 
+-- 2: books not sound
+unfoldable pub soundness-reason : Size → Books → Reason
+soundness-reason z b = unsound if not (sound z b)
+
 -- 3 and 4: the handle
 unfoldable pub handle-reasons : Size → Books → ℕ → List Reason
 handle-reasons z b h = (stale if is-stale z b h) ∷ (ended if is-ended z b h) ∷ []
@@ -39,6 +43,10 @@ handle-reasons z b h = (stale if is-stale z b h) ∷ (ended if is-ended z b h) �
 -- 5: cell 32 or more
 unfoldable pub cell-reason : Size → ℕ → Reason
 cell-reason z c = no-cell if leb (z .cells) c
+
+-- 2 to 5: books, handle and cell, for write, read and show
+unfoldable pub handle-cell-reasons : Size → Books → ℕ → ℕ → List Reason
+handle-cell-reasons z b h c = soundness-reason z b ∷ (handle-reasons z b h ++ (cell-reason z c ∷ []))
 
 -- 7: records after the call plus live ones after it would pass 4,000, with so many more of both than now
 unfoldable pub room-reason : Size → Books → ℕ → Reason
@@ -52,6 +60,10 @@ turned-back s kind i c =
     let p = place-at (s .books) i in
     recorded conflict 0 (with-books s (with-place (s .books) i (freed p))) (record-at kind i p c no-value)
 
+-- a judged call is weighed with itself counted as granted: Conflict exactly if the pairs contain a cycle in the books as they would then be
+unfoldable pub weighed : Size → Books → ℕ → Outcome → Outcome → Outcome
+weighed z b i back on = cond (has-cycle z b i) back on
+
 -- ---- Open gives books with every place free, turns 0, no records. It never refuses.
 
 unfoldable pub open-rule : State → Outcome
@@ -63,7 +75,7 @@ module _ (z : Size) where
   unfoldable pub begin-reasons : ℕ → State → List Reason
   begin-reasons log s =
       (lent if wrong log log-bytes)
-      ∷ (unsound if not (sound z (s .books)))
+      ∷ soundness-reason z (s .books)
       ∷ (full if no-free z (s .books))
       ∷ room-reason z (s .books) 2
       ∷ []
@@ -81,8 +93,7 @@ module _ (z : Size) where
   unfoldable pub write-reasons : ℕ → State → ℕ → ℕ → List ℕ → List Reason
   write-reasons log s h c value =
       (lent if (wrong (length value) cell-bytes || (wrong (length (s .drafts)) (drafts-bytes z) || wrong log log-bytes)))
-      ∷ (unsound if not (sound z (s .books)))
-      ∷ (handle-reasons z (s .books) h ++ (cell-reason z c ∷ room-reason z (s .books) 1 ∷ []))
+      ∷ (handle-cell-reasons z (s .books) h c ++ (room-reason z (s .books) 1 ∷ []))
 
   unfoldable pub write-rule : ℕ → State → ℕ → ℕ → List ℕ → Outcome
   write-rule log s h c value =
@@ -96,16 +107,11 @@ module _ (z : Size) where
 
   -- ---- Read of a cell the transaction has written shows its draft and is not judged. Any other read shows the table's 8 bytes and is judged.
 
-  -- 1 to 5, with the buffers that are lent
-  unfoldable pub show-reasons : State → ℕ → ℕ → List Reason
-  show-reasons s h c =
-      (lent if (wrong (length (s .table)) (table-bytes z) || wrong (length (s .drafts)) (drafts-bytes z)))
-      ∷ (unsound if not (sound z (s .books)))
-      ∷ (handle-reasons z (s .books) h ++ (cell-reason z c ∷ []))
-
-  -- and 7, counted as if granted
+  -- 7 is counted as if granted
   unfoldable pub read-reasons : ℕ → State → ℕ → ℕ → List Reason
-  read-reasons log s h c = (lent if wrong log log-bytes) ∷ (show-reasons s h c ++ (room-reason z (s .books) 1 ∷ []))
+  read-reasons log s h c =
+      (lent if (wrong (length (s .table)) (table-bytes z) || (wrong (length (s .drafts)) (drafts-bytes z) || wrong log log-bytes)))
+      ∷ (handle-cell-reasons z (s .books) h c ++ (room-reason z (s .books) 1 ∷ []))
 
   -- a read of a written cell: its draft is recorded
   unfoldable pub own-read-of : State → ℕ → ℕ → Outcome
@@ -122,9 +128,8 @@ module _ (z : Size) where
       recorded granted 0 (with-books s (read-books (s .books) i c))
       (record-at judged-read-kind i (place-at (s .books) i) c (cell-of (s .table) c))
 
-  -- it is weighed with itself counted as granted
   unfoldable pub judged-read-of : State → ℕ → ℕ → Outcome
-  judged-read-of s i c = cond (has-cycle z (read-books (s .books) i c) i) (turned-back s read-conflict-kind i c) (granted-read-of s i c)
+  judged-read-of s i c = weighed z (read-books (s .books) i c) i (turned-back s read-conflict-kind i c) (granted-read-of s i c)
 
   unfoldable pub read-rule : ℕ → State → ℕ → ℕ → Outcome
   read-rule log s h c =
@@ -133,10 +138,16 @@ module _ (z : Size) where
       (cond (wrote (place-at (s .books) i) c) (own-read-of s i c) (judged-read-of s i c))
 
   -- Showing takes the new books and the read's number. It shows an empty part unless that is 0 and a read would meet none of 1 to 5.
+  unfoldable pub show-reasons : State → ℕ → ℕ → ℕ → List Reason
+  show-reasons s given h c =
+      (given if not (eqb given 0))
+      ∷ (lent if (wrong (length (s .table)) (table-bytes z) || wrong (length (s .drafts)) (drafts-bytes z)))
+      ∷ handle-cell-reasons z (s .books) h c
+
   unfoldable pub show-rule : State → ℕ → ℕ → ℕ → Outcome
   show-rule s given h c =
       let i = place-of h in
-      unless-refused ((given if not (eqb given 0)) ∷ show-reasons s h c) s
+      unless-refused (show-reasons s given h c) s
       record {
         number = granted;
         answer = 0;
@@ -151,7 +162,7 @@ module _ (z : Size) where
   unfoldable pub commit-reasons : ℕ → State → ℕ → List Reason
   commit-reasons log s h =
       (lent if (wrong (length (s .table)) (table-bytes z) || (wrong (length (s .drafts)) (drafts-bytes z) || wrong log log-bytes)))
-      ∷ (unsound if not (sound z (s .books)))
+      ∷ soundness-reason z (s .books)
       ∷ handle-reasons z (s .books) h
 
   -- the books as they would be if a commit were granted
@@ -171,7 +182,7 @@ module _ (z : Size) where
       (record-at commit-kind i p 0 no-value)
 
   unfoldable pub judged-commit-of : State → ℕ → Outcome
-  judged-commit-of s i = cond (has-cycle z (commit-books (s .books) i) i) (turned-back s commit-conflict-kind i 0) (granted-commit-of s i)
+  judged-commit-of s i = weighed z (commit-books (s .books) i) i (turned-back s commit-conflict-kind i 0) (granted-commit-of s i)
 
   unfoldable pub commit-rule : ℕ → State → ℕ → Outcome
   commit-rule log s h = unless-refused (commit-reasons log s h) s (judged-commit-of s (place-of h))
@@ -179,7 +190,7 @@ module _ (z : Size) where
   -- ---- Give up frees the place.
 
   unfoldable pub give-up-reasons : ℕ → State → ℕ → List Reason
-  give-up-reasons log s h = (lent if wrong log log-bytes) ∷ (unsound if not (sound z (s .books))) ∷ handle-reasons z (s .books) h
+  give-up-reasons log s h = (lent if wrong log log-bytes) ∷ soundness-reason z (s .books) ∷ handle-reasons z (s .books) h
 
   unfoldable pub give-up-rule : ℕ → State → ℕ → Outcome
   give-up-rule log s h =
@@ -194,7 +205,7 @@ module _ (z : Size) where
   unfoldable pub post-reasons : ℕ → State → ℕ → List ℕ → List Reason
   post-reasons log s c value =
       (lent if (wrong (length value) cell-bytes || (wrong (length (s .table)) (table-bytes z) || wrong log log-bytes)))
-      ∷ (unsound if not (sound z (s .books)))
+      ∷ soundness-reason z (s .books)
       ∷ cell-reason z c
       ∷ (full if no-free z (s .books))
       ∷ room-reason z (s .books) 1
@@ -216,7 +227,7 @@ module _ (z : Size) where
   unfoldable pub order-reasons : ℕ → State → ℕ → List Reason
   order-reasons buffer s h =
       (lent if wrong buffer (order-numbers z))
-      ∷ (unsound if not (sound z (s .books)))
+      ∷ soundness-reason z (s .books)
       ∷ (stale if is-stale z (s .books) h)
       ∷ (unsound if has-cycle z (s .books) (place-of h))
       ∷ []
@@ -232,7 +243,7 @@ module _ (z : Size) where
   unfoldable pub close-reasons : ℕ → State → List Reason
   close-reasons log s =
       (lent if wrong log log-bytes)
-      ∷ (unsound if not (sound z (s .books)))
+      ∷ soundness-reason z (s .books)
       ∷ (busy if anyBelow (λ i. is-live (place-at (s .books) i)) (z .places))
       ∷ []
 

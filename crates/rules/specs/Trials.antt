@@ -8,7 +8,8 @@ use Rattle.rules.specs.Sizes.{yard}
 use Rattle.rules.specs.Handles.{handle-of}
 use Rattle.rules.specs.Daylog.{no-value}
 use Rattle.rules.specs.State.{Entry, nothing, adds, closes, opens, Outcome}
-use Rattle.rules.specs.Run.{Call, Begin, Write, Read, Commit, Order, played, fresh}
+use Rattle.rules.specs.Calls.{Call, Begin, Write, Read, Commit, Order}
+use Rattle.rules.specs.Run.{played, fresh}
 
 -- ---- what a call answers
 
