@@ -19,8 +19,8 @@ use Rattle.rules.specs.Sizes.{Size}
 use Rattle.rules.specs.Daylog.{commit-kind, post-kind, kind-starts, kind-commits}
 use Rattle.rules.specs.Layout.{seat, fits, walks, Held}
 use Rattle.rules.specs.Day.{Event, whose, event, events, latest, commit-of, committed, moves-moment, moment-of}
-use Rattle.rules.proofs.Seats.{seat-by, moved-post, moved-commit, seat-here, seat-other, fits-live, held-of-seat, seat-of-held}
-use Rattle.rules.proofs.Day.{event-cases, number-bounds, begin-bound, whose-starts, whose-others, who-bound, walks-earlier}
+use Rattle.rules.proofs.Seats.{walks-earlier, seat-by, moved-post, moved-commit, seat-here, seat-other, fits-live, held-of-seat, seat-of-held}
+use Rattle.rules.proofs.Day.{event-cases, number-bounds, begin-bound, whose-starts, whose-others, who-bound}
 
 -- ---- held places
 
