@@ -19,7 +19,7 @@ use Rattle.rules.specs.Daylog.{read-conflict-kind, commit-conflict-kind}
 use Rattle.rules.specs.State.{State, Outcome, refused, unless-refused, recorded}
 use Rattle.rules.specs.Steps.{soundness-reason, handle-reasons, cell-reason, handle-cell-reasons, room-reason, begin-reasons, write-reasons, read-reasons, commit-reasons, give-up-reasons, post-reasons, order-reasons, close-reasons, read-books, commit-books, turned-back, weighed, own-read-of, granted-read-of, judged-read-of, granted-commit-of, judged-commit-of, open-rule, begin-rule, write-rule, read-rule, commit-rule, give-up-rule, post-rule, order-rule, close-rule}
 use Rattle.rules.specs.Calls.{Call, Open, Begin, Write, Read, Show, Commit, GiveUp, Post, Order, Close, Lending, issued}
-use Rattle.rules.specs.Statements.{TurnsBack, ReadConflict, CommitConflict, judged, Conflicts}
+use Rattle.rules.specs.Statements.{TurnsBack, ReadConflict, CommitConflict, can-answer-nine, Conflicts}
 use Rattle.rules.proofs.Judging.{given-orders}
 use Rattle.rules.proofs.Reasons.{first-among, refused-or-not}
 
@@ -132,7 +132,7 @@ not-conflict : (reasons : List Reason) (s : State) (o : Outcome) → NoNine reas
 not-conflict reasons s o no-nine zero e =
     never (sym zero ∙ sym (ap (λ (x : Outcome). x .number) (conflict-granted reasons s o no-nine e .1)) ∙ e)
 
-no-other : (z : Size) (l : Lending) (s : State) (c : Call) → judged c ≡ false → issued z l c s .number ≢ conflict
+no-other : (z : Size) (l : Lending) (s : State) (c : Call) → can-answer-nine c ≡ false → issued z l c s .number ≢ conflict
 unfolding issued open-rule begin-rule write-rule give-up-rule post-rule order-rule close-rule recorded allIn begin-reasons write-reasons give-up-reasons post-reasons order-reasons close-reasons handle-cell-reasons soundness-reason handle-reasons cell-reason room-reason
 no-other z l s Open j = never
 no-other z l s Begin j = not-conflict (begin-reasons z (l .log) s) s _ refl refl

@@ -87,24 +87,24 @@ pub record CommitConflict (z : Size) (l : Lending) (s : State) (h : ℕ) : Type 
   pub exactly : (issued z l (Commit h) s .number ≡ conflict) ↔ ((first-reason (commit-reasons z (l .log) s h) ≡ granted) × HasCycle z (commit-books z (s .books) (place-of h)) (place-of h))
   pub turns-back : issued z l (Commit h) s .number ≡ conflict → TurnsBack s commit-conflict-kind (place-of h) 0 (issued z l (Commit h) s)
 
--- read and commit are judged; a show is told what a read was answered
-abbrev pub judged : Call → Bool
-judged Open = false
-judged Begin = false
-judged (Write h c value) = false
-judged (Read h c) = true
-judged (Show given h c) = true
-judged (Commit h) = true
-judged (GiveUp h) = false
-judged (Post c value) = false
-judged (Order h) = false
-judged Close = false
+-- the calls that can answer 9: read and commit, which are judged, and show, which hands on the number that it is given
+abbrev pub can-answer-nine : Call → Bool
+can-answer-nine Open = false
+can-answer-nine Begin = false
+can-answer-nine (Write h c value) = false
+can-answer-nine (Read h c) = true
+can-answer-nine (Show given h c) = true
+can-answer-nine (Commit h) = true
+can-answer-nine (GiveUp h) = false
+can-answer-nine (Post c value) = false
+can-answer-nine (Order h) = false
+can-answer-nine Close = false
 
--- no call but these two meets Conflict; a show only hands on the number that it is given
+-- Conflict comes at a read or a commit, and at no other call
 pub record Conflicts : Type 0 where
   pub at-read : (z : Size) (l : Lending) (s : State) (h c : ℕ) → ReadConflict z l s h c
   pub at-commit : (z : Size) (l : Lending) (s : State) (h : ℕ) → CommitConflict z l s h
-  pub at-no-other : (z : Size) (l : Lending) (s : State) (c : Call) → judged c ≡ false → issued z l c s .number ≢ conflict
+  pub at-no-other : (z : Size) (l : Lending) (s : State) (c : Call) → can-answer-nine c ≡ false → issued z l c s .number ≢ conflict
 
 -- the list takes, again and again, among those of the company with nobody left before them, the one with the lowest begin record
 abbrev pub TakesLowestBegin : Size → Books → ℕ → List ℕ → Type 0
