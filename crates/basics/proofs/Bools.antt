@@ -86,3 +86,21 @@ below-more {i} {n} h below last = elim (decLt i n) [ yes k ↦ below k | no k �
 -- two numbers are one or they differ
 pub equal-or-not {ℓ} : {X : Type ℓ} (a b : ℕ) → (a ≡ b → X) → ((a ≡ b → ⊥) → X) → X
 equal-or-not a b same other = elim (ℕ-discrete a b) [ yes e ↦ same e | no e ↦ other e ]
+
+-- one of two tests, decided by the first or left to the second
+pub or-first : (a b : Bool) → a ≡ true → a ≡ a || b
+or-first true b e = refl
+or-first false b e = absurd (false≢true e)
+
+pub or-second : (a b : Bool) → a ≡ false → b ≡ a || b
+or-second true b e = absurd (true≢false e)
+or-second false b e = refl
+
+-- both of two tests, decided by the first or left to the second
+pub and-first : (a b : Bool) → a ≡ false → a ≡ a && b
+and-first true b e = absurd (true≢false e)
+and-first false b e = refl
+
+pub and-second : (a b : Bool) → a ≡ true → b ≡ a && b
+and-second true b e = refl
+and-second false b e = absurd (false≢true e)

@@ -4,6 +4,7 @@ pub mod Bytes
 pub mod Elements
 pub mod Eliminated
 pub mod Elimination
+pub mod Filled
 pub mod Lists
 pub mod Says
 pub mod Search

@@ -2,6 +2,7 @@
 -- A limit of n means the numbers 0, 1, .., n - 1. A search that finds nothing answers the limit itself.
 use Prim.Native.Nat.{ℕ, zero, suc, _+_, max}
 use mathlib.Core.Bool.{Bool, true, false, cond, _&&_, _||_}
+use mathlib.Core.List.{List, [], _∷_, _++_}
 use lib.Dec.{ltb}
 
 -- each number below the limit passes
@@ -40,3 +41,8 @@ greatestBelow f (suc n) = max (greatestBelow f n) (f n)
 unfoldable pub runBelow {ℓ} : {A : Type ℓ} → (ℕ → A → A) → ℕ → A → A
 runBelow f zero a = a
 runBelow f (suc n) a = f n (runBelow f n a)
+
+-- w values: at the numbers below the limit n those of f, from there on d
+unfoldable pub filledBelow {ℓ} : {A : Type ℓ} → (ℕ → A) → A → ℕ → ℕ → List A
+filledBelow f d n zero = []
+filledBelow f d n (suc w) = filledBelow f d n w ++ (cond (ltb w n) (f w) d ∷ [])

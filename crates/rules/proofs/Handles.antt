@@ -1,14 +1,19 @@
--- Laws of handles: a handle tells its place and turn, and the gate says the same as the tests "stale" and "ended". Assumes nothing.
+-- Laws of handles: a handle tells its place and turn, the gate says the same as the tests "stale" and "ended", and a handle's lookup is the first of
+-- its reasons. Assumes nothing.
 use Prim.Native.Nat.{ℕ, zero, suc, _≤_, _<_}
 use mathlib.Core.Path.{_≡_, refl}
 use mathlib.Core.Logic.{_↔_, _≢_}
-use mathlib.Core.Bool.{Bool, true, false, cond, false≢true, or-false}
+use mathlib.Core.Bool.{Bool, true, false, not, cond, _&&_, _||_, false≢true, or-false}
+use mathlib.Core.List.{[], _∷_}
 use lib.Dec.{eqb}
 use native.Mathlib.Omega.{arith}
+use borrow.Author.Tests.{le-leb}
+use Rattle.basics.proofs.Bools.{split}
 use Rattle.rules.specs.Sizes.{Size, turns, handles, handles-a-turn}
 use Rattle.rules.specs.Books.{Books, place-at, is-free, is-committed, next-turn}
-use Rattle.rules.specs.Numbers.{stale, ended}
-use Rattle.rules.specs.Handles.{handle-of, place-of, turn-of, out-of-range, turn-agrees, is-stale, is-ended, Caller, reads, writes, commits, gives-up, orders, gate-committed, gate}
+use Rattle.rules.specs.Numbers.{granted, stale, ended, _if_, first-reason}
+use Rattle.rules.specs.Handles.{handle-of, place-of, turn-of, out-of-range, turn-agrees, is-stale, is-ended, Caller, reads, writes, commits, gives-up, orders, gate-committed, gate, looked-up}
+use Rattle.rules.specs.Steps.{handle-reasons}
 
 -- the place and the turn that were put into a handle come out again
 pub place-of-handle-of : (i t : ℕ) → i < handles-a-turn → place-of (handle-of i t) ≡ i
@@ -36,10 +41,10 @@ turn-of-below h k = omega arith
 pub greatest-handle : (place-of 2097151 ≡ 31) × (turn-of 2097151 ≡ 65535)
 greatest-handle = (refl, refl)
 
--- 2,097,152 is stale, whatever the books
-pub past-handles-stale : (z : Size) (b : Books) → is-stale z b 2097152 ≡ true
+-- 2,097,152 and above are stale, whatever the books
+pub past-handles-stale : (z : Size) (b : Books) (h : ℕ) → handles ≤ h → is-stale z b h ≡ true
 unfolding is-stale out-of-range
-past-handles-stale z b = refl
+past-handles-stale z b h k = rw (le-leb handles h k)
 
 -- the turn after 65,535 is 0
 pub last-turn-wraps : next-turn 65535 ≡ 0
@@ -110,3 +115,40 @@ module _ (z : Size) (b : Books) (h : ℕ) (near : out-of-range z h ≡ false) (a
 pub gate-orders : (s : ℕ) → gate orders s ≢ ended
 unfolding gate gate-committed
 gate-orders s = picks-neither (eqb s 0) (λ e. omega arith) (picks-neither (eqb s 1) (λ e. omega arith) (λ e. omega arith))
+
+-- ---- the lookup
+
+-- range, turn and gate say what the reasons 3 and 4 say, by the three answers of the tests and the three statuses
+reasons-agree : (out agrees : Bool) (c : Caller) (s : ℕ) → c ≢ orders → s ≤ 2
+    → cond (out || not agrees) stale (gate c s) ≡ cond (out || (eqb s 0 || not agrees)) stale (cond (not out && (agrees && eqb s 2)) ended granted)
+unfolding gate
+reasons-agree true agrees c s other k = refl
+reasons-agree false false c s other k = split (eqb s 0) (λ e. rw e) (λ e. rw e)
+reasons-agree false true c zero other k = refl
+reasons-agree false true c (suc zero) other k = refl
+reasons-agree false true c (suc (suc zero)) other k = committed-ended c other
+reasons-agree false true c (suc (suc (suc s))) other k = absurd (omega arith)
+
+-- for order they say what the reason 3 says
+order-agrees : (out agrees : Bool) (s : ℕ) → s ≤ 2
+    → cond (out || not agrees) stale (gate orders s) ≡ cond (out || (eqb s 0 || not agrees)) stale granted
+unfolding gate gate-committed
+order-agrees true agrees s k = refl
+order-agrees false false s k = split (eqb s 0) (λ e. rw e) (λ e. rw e)
+order-agrees false true zero k = refl
+order-agrees false true (suc zero) k = refl
+order-agrees false true (suc (suc zero)) k = refl
+order-agrees false true (suc (suc (suc s))) k = absurd (omega arith)
+
+module _ (z : Size) (b : Books) (h : ℕ) (known : place-at b (place-of h) .status ≤ 2) where
+  -- what a handle is looked up to is the first of its reasons 3 and 4, for every call but order
+  pub looked-up-reasons : (c : Caller) → c ≢ orders → looked-up z c (place-at b (place-of h)) h ≡ first-reason (handle-reasons z b h)
+  unfolding looked-up first-reason handle-reasons is-stale is-ended turn-agrees
+  looked-up-reasons c other =
+      reasons-agree (out-of-range z h) (eqb (place-at b (place-of h) .turn) (turn-of h)) c (place-at b (place-of h) .status) other known
+
+  -- and for order its reason 3
+  pub looked-up-order : looked-up z orders (place-at b (place-of h)) h ≡ first-reason ((stale if is-stale z b h) ∷ [])
+  unfolding looked-up first-reason is-stale turn-agrees
+  looked-up-order =
+      order-agrees (out-of-range z h) (eqb (place-at b (place-of h) .turn) (turn-of h)) (place-at b (place-of h) .status) known

@@ -10,7 +10,7 @@ use native.Mathlib.Omega.{arith}
 use Rattle.rules.specs.declared.Place.{Place}
 use Rattle.rules.specs.Sizes.{Size, most-records}
 use Rattle.rules.specs.Books.{Books, place-at, is-free, is-live, is-committed, is-held, wrote, first-read, last-read, room-taken}
-use Rattle.rules.specs.Sound.{cells-clear, is-clear, reads-sound, held-sound, commit-sound, place-sound, differ, sound, SoundPlace, Sound}
+use Rattle.rules.specs.Sound.{cells-clear, is-clear, read-sound, reads-sound, held-sound, commit-sound, place-sound, differ, sound, SoundPlace, Sound}
 use Rattle.basics.proofs.Says.{eqb-says, leb-says, not-says, not-says-not, and-says, or-says, cond-says, all-says}
 
 -- ---- one place
@@ -46,7 +46,7 @@ module _ (z : Size) (records : ℕ) (p : Place) where
       (all-says _ (z .cells) λ c h. and-says (not-says (wrote p c)) (and-says (eqb-says (first-read p c) 0) (eqb-says (last-read p c) 0))))
 
   reads-say : (c : ℕ) → (reads-sound records p c ≡ true) ↔ ReadsSound records p c
-  unfolding reads-sound
+  unfolding read-sound reads-sound
   reads-say c =
       or-says (and-says (eqb-says (first-read p c) 0) (eqb-says (last-read p c) 0))
       (and-says (leb-says (p .begin) (first-read p c)) (and-says (leb-says (first-read p c) (last-read p c)) (leb-says (last-read p c) records)))

@@ -90,6 +90,10 @@ no-place = record { turn = 0; status = 0; begin = 0; commit = 0; written = []; f
 abbrev pub place-at : Books → ℕ → Place
 place-at b i = getD (b .places) i no-place
 
+-- books with these places, for what does not depend on the record count
+abbrev pub of-places : List Place → Books
+of-places places = record { records = 0; places = places }
+
 -- one record more, and the place of that number changed
 unfoldable pub with-place : Books → ℕ → Place → Books
 with-place b i p = record { records = b .records + 1; places = set (b .places) i p }

@@ -2,6 +2,7 @@
 use Prim.Native.Nat.{ℕ, _+_, _*_, _/_, _%_}
 use mathlib.Core.Bool.{Bool, not, cond, _&&_, _||_}
 use lib.Dec.{leb, eqb}
+use Rattle.rules.specs.declared.Place.{Place}
 use Rattle.rules.specs.Sizes.{Size, handles, handles-a-turn}
 use Rattle.rules.specs.Numbers.{granted, stale, ended}
 use Rattle.rules.specs.Books.{Books, place-at, is-free, is-committed}
@@ -49,3 +50,7 @@ gate-committed orders = granted
 -- by place status: free, always 3; live, goes on; committed, by the call
 unfoldable pub gate : Caller → ℕ → ℕ
 gate c status = cond (eqb status 0) stale (cond (eqb status 1) granted (gate-committed c))
+
+-- 3, 4 or 0: what a call on a handle meets at the place that the handle names
+unfoldable pub looked-up : Size → Caller → Place → ℕ → ℕ
+looked-up z c p h = cond (out-of-range z h || not (eqb (p .turn) (turn-of h))) stale (gate c (p .status))

@@ -42,14 +42,13 @@ unfoldable pub read-write : Size → Place → Place → Bool
 read-write z k m =
     is-committed m && anyBelow (λ c. wrote m c && (leb 1 (first-read k c) && ltb (first-read k c) (m .commit))) (z .cells)
 
+-- one of the four holds
+unfoldable pub precedes : Size → Place → Place → Bool
+precedes z k m = real-time k m || (write-write z k m || (write-read z k m || read-write z k m))
+
 -- K and M differ, and one of the four holds
 unfoldable pub stands-before : Size → Books → ℕ → ℕ → Bool
-stands-before z b k m =
-    not (eqb k m)
-    && (real-time (place-at b k) (place-at b m)
-    || (write-write z (place-at b k) (place-at b m)
-    || (write-read z (place-at b k) (place-at b m)
-    || read-write z (place-at b k) (place-at b m))))
+stands-before z b k m = not (eqb k m) && precedes z (place-at b k) (place-at b m)
 
 -- ---- the verdict and the order
 

@@ -1,10 +1,7 @@
 -- Document 01, "Sizes": the numbers of places and cells, and the lengths and limits that follow from them.
-use Prim.Native.Nat.{ℕ, _+_, _*_}
-
+use Prim.Native.Nat.{ℕ, _+_, _*_, _≤_}
 -- how many places for transactions, and how many cells, a controller has
-pub record Size : Type 0 where
-  pub places : ℕ
-  pub cells : ℕ
+pub use Rattle.rules.specs.declared.Size.{Size}
 
 -- the controller of document 01: 32 places, 32 cells
 abbrev pub yard : Size
@@ -53,3 +50,8 @@ handles = handles-a-turn * turns
 -- the books' arrays are 32 wide, whatever the size
 abbrev pub width : ℕ
 width = 32
+
+-- the arrays are wide enough for the places and the cells
+pub record Within (z : Size) : Type 0 where
+  pub places : z .places ≤ width
+  pub cells : z .cells ≤ width

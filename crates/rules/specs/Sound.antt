@@ -23,10 +23,12 @@ unfoldable pub is-clear : Size → Place → Bool
 is-clear z p = eqb (p .begin) 0 && (eqb (p .commit) 0 && cells-clear z (p .written) (p .first) (p .last))
 
 -- first and last read of a cell: both 0, or begin ≤ first ≤ last ≤ records
+unfoldable pub read-sound : ℕ → ℕ → ℕ → ℕ → Bool
+read-sound records begin first last = (eqb first 0 && eqb last 0) || (leb begin first && (leb first last && leb last records))
+
+-- the reads of a cell at a place
 unfoldable pub reads-sound : ℕ → Place → ℕ → Bool
-reads-sound records p c =
-    (eqb (first-read p c) 0 && eqb (last-read p c) 0)
-    || (leb (p .begin) (first-read p c) && (leb (first-read p c) (last-read p c) && leb (last-read p c) records))
+reads-sound records p c = read-sound records (p .begin) (first-read p c) (last-read p c)
 
 -- a held place has a begin record, from 1 to the record count, and its reads are sound
 unfoldable pub held-sound : Size → ℕ → Place → Bool

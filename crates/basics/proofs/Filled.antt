@@ -1,0 +1,99 @@
+-- Laws of an array that is filled from the front: its length, its elements, and one more number below the limit. Assumes nothing.
+use Prim.Native.Nat.{ℕ, zero, suc, _+_, _<_, _≤_}
+use mathlib.Core.Path.{_≡_, refl, _∙_, ap, ap₂, sym, subst}
+use mathlib.Core.Logic.{_≢_}
+use mathlib.Core.Bool.{Bool, true, false, cond}
+use mathlib.Core.List.{List, [], _∷_, _++_}
+use native.Mathlib.Nat.{not-suc-le-zero, le-antisymm}
+use native.Mathlib.Omega.{arith}
+use lib.Dec.{ltb}
+use lib.ListN.{length, getD, set, replicate, length-append, length-set, length-replicate, getD-replicate, List·getD-append}
+use lib.Seq.{getD-at, ext-getD, getD-set-same, getD-set-other}
+use borrow.Author.Tests.{lt-ltb, le-ltb, ltb-true, ltb-false}
+use Rattle.basics.specs.Below.{filledBelow}
+use Rattle.basics.proofs.Below.{Agree}
+use Rattle.basics.proofs.Bools.{split, below-more, equal-or-not}
+
+-- the test "below n + 1" away from n
+ltb-more : (i n : ℕ) → i ≢ n → ltb i (n + 1) ≡ ltb i n
+ltb-more i n other = elim-lt (λ h. lt-ltb i (n + 1) (omega arith) ∙ sym (lt-ltb i n h)) (λ h. le-ltb i (n + 1) (apart h) ∙ sym (le-ltb i n h))
+  where
+    apart : n ≤ i → n + 1 ≤ i
+    apart h = lt-of (λ e. other (sym e)) h
+      where
+        lt-of : (n ≡ i → ⊥) → n ≤ i → n + 1 ≤ i
+        lt-of k h = omega arith
+
+    elim-lt : (i < n → ltb i (n + 1) ≡ ltb i n) → (n ≤ i → ltb i (n + 1) ≡ ltb i n) → ltb i (n + 1) ≡ ltb i n
+    elim-lt a b = split (ltb i n) (λ e. a (ltb-true i n e)) (λ e. b (ltb-false i n e))
+
+module _ {ℓ} {A : Type ℓ} (f : ℕ → A) (d : A) where
+  pub filled-length : (n w : ℕ) → length (filledBelow f d n w) ≡ w
+  unfolding filledBelow
+  filled-length n zero = refl
+  filled-length n (suc w) = length-append (filledBelow f d n w) _ ∙ ap (λ (k : ℕ). k + 1) (filled-length n w) ∙ omega arith
+
+  -- what stands at each number
+  pub filled-get : (n w i : ℕ) (e : A) → i < w → getD (filledBelow f d n w) i e ≡ cond (ltb i n) (f i) d
+  unfolding filledBelow
+  filled-get n zero i e h = absurd (not-suc-le-zero h)
+  filled-get n (suc w) i e h =
+      below-more h
+      (λ k. List·getD-append (filledBelow f d n w) _ e i (subst (λ (m : ℕ). i < m) (sym (filled-length n w)) k) ∙ filled-get n w i e k)
+      (λ q.
+      subst (λ (j : ℕ). getD (filledBelow f d n (suc w)) j e ≡ cond (ltb j n) (f j) d) (sym q)
+      (getD-at (filledBelow f d n w) _ [] e w (filled-length n w)))
+
+  pub filled-at : (n w i : ℕ) (e : A) → i < w → i < n → getD (filledBelow f d n w) i e ≡ f i
+  filled-at n w i e h k = filled-get n w i e h ∙ rw (lt-ltb i n k)
+
+  pub filled-past : (n w i : ℕ) (e : A) → i < w → n ≤ i → getD (filledBelow f d n w) i e ≡ d
+  filled-past n w i e h k = filled-get n w i e h ∙ rw (le-ltb i n k)
+
+  -- an array with those elements is that array
+  pub filled-is : (n w : ℕ) (xs : List A) → length xs ≡ w → ((i : ℕ) → i < w → getD xs i d ≡ cond (ltb i n) (f i) d) → xs ≡ filledBelow f d n w
+  filled-is n w xs e h =
+      ext-getD d xs (filledBelow f d n w) (e ∙ sym (filled-length n w))
+      (λ i k. let b : i < w = subst (λ (m : ℕ). i < m) e k in h i b ∙ sym (filled-get n w i d b))
+
+  -- nothing filled in
+  pub filled-none : (w : ℕ) → replicate w d ≡ filledBelow f d 0 w
+  filled-none w =
+      filled-is 0 w (replicate w d) (length-replicate w d) (λ i h. getD-replicate w i d d h ∙ rw (le-ltb i 0 (omega arith)))
+
+  -- the next one filled in
+  pub filled-more : (n w : ℕ) → n < w → set (filledBelow f d n w) n (f n) ≡ filledBelow f d (n + 1) w
+  filled-more n w h =
+      filled-is (n + 1) w (set (filledBelow f d n w) n (f n)) (length-set (filledBelow f d n w) n (f n) ∙ filled-length n w)
+      (λ i k.
+      equal-or-not i n
+      (λ q.
+      subst (λ (j : ℕ). getD (set (filledBelow f d n w) n (f n)) j d ≡ cond (ltb j (n + 1)) (f j) d) (sym q)
+      (getD-set-same (filledBelow f d n w) n (f n) d (subst (λ (m : ℕ). n < m) (sym (filled-length n w)) h) ∙ rw (lt-ltb n (n + 1) (omega arith))))
+      (λ other. getD-set-other (filledBelow f d n w) n i (f n) d other ∙ filled-get n w i d k ∙ rw (ltb-more i n other)))
+
+  -- the next one passed over
+  pub filled-skips : (n w : ℕ) → f n ≡ d → filledBelow f d n w ≡ filledBelow f d (n + 1) w
+  filled-skips n w e =
+      filled-is (n + 1) w (filledBelow f d n w) (filled-length n w)
+      (λ i k.
+      filled-get n w i d k
+      ∙ equal-or-not i n
+      (λ q. subst (λ (j : ℕ). cond (ltb j n) (f j) d ≡ cond (ltb j (n + 1)) (f j) d) (sym q) (rw (le-ltb n n (omega arith), lt-ltb n (n + 1) (omega arith), e)))
+      (λ other. rw (ltb-more i n other)))
+
+  -- a loop that fills an array: a turn that stores, a turn that passes over, and its end
+  pub filled-stores : (xs : List A) (n w : ℕ) (v : A) → n < w → xs ≡ filledBelow f d n w → v ≡ f n → set xs n v ≡ filledBelow f d (n + 1) w
+  filled-stores xs n w v h e q = ap₂ (λ (ys : List A) (u : A). set ys n u) e q ∙ filled-more n w h
+
+  pub filled-passes : (xs : List A) (n w : ℕ) → xs ≡ filledBelow f d n w → f n ≡ d → xs ≡ filledBelow f d (n + 1) w
+  filled-passes xs n w e q = e ∙ filled-skips n w q
+
+  pub filled-ends : (xs : List A) (i n w : ℕ) → xs ≡ filledBelow f d i w → i ≤ n → n ≤ i → xs ≡ filledBelow f d n w
+  filled-ends xs i n w e h k = e ∙ ap (λ (m : ℕ). filledBelow f d m w) (le-antisymm h k)
+
+module _ {ℓ} {A : Type ℓ} (f g : ℕ → A) (d : A) where
+  pub filled-cong : (n w : ℕ) → Agree n f g → filledBelow f d n w ≡ filledBelow g d n w
+  filled-cong n w h =
+      filled-is g d n w (filledBelow f d n w) (filled-length f d n w)
+      (λ i k. filled-get f d n w i d k ∙ split (ltb i n) (λ t. rw t (h i (ltb-true i n t))) (λ t. rw t))
