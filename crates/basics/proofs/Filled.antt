@@ -2,8 +2,8 @@
 use Prim.Native.Nat.{ℕ, zero, suc, _+_, _<_, _≤_}
 use mathlib.Core.Path.{_≡_, refl, _∙_, ap, ap₂, sym, subst}
 use mathlib.Core.Logic.{_≢_}
-use mathlib.Core.Bool.{Bool, true, false, cond}
-use mathlib.Core.List.{List, [], _∷_, _++_}
+use mathlib.Core.Bool.{cond}
+use mathlib.Core.List.{List, []}
 use native.Mathlib.Nat.{not-suc-le-zero, le-antisymm}
 use native.Mathlib.Omega.{arith}
 use lib.Dec.{ltb}

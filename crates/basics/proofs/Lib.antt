@@ -6,6 +6,7 @@ pub mod Eliminated
 pub mod Elimination
 pub mod Filled
 pub mod Lists
+pub mod SamePairs
 pub mod Says
 pub mod Search
 pub mod Walk

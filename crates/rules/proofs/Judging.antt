@@ -1,6 +1,6 @@
 -- The given order: the test of a cycle says that there is one, and the order by elimination is what document 01 asks for.
 -- Rests on the laws of elimination in any relation. Assumes nothing.
-use mathlib.Core.Path.{_≡_, sym}
+use mathlib.Core.Path.{_≡_, refl, sym}
 use mathlib.Core.Logic.{⊎-elim}
 use Prim.Native.Nat.{ℕ}
 use mathlib.Core.Bool.{true, false≢true}
@@ -10,8 +10,8 @@ use Rattle.basics.proofs.Bools.{split, clash, or-true, or-false-left, or-false-
 use Rattle.basics.proofs.Walk.{first-step}
 use Rattle.basics.proofs.Eliminated.{eliminated-takes, eliminated-unique, eliminated-members, eliminated-distinct, eliminated-keeps, eliminated-exactly, eliminated-no-cycle, not-all-cycle, cycle-not-all}
 use Rattle.rules.specs.Sizes.{Size}
-use Rattle.rules.specs.Books.{Books, place-at, is-live, is-committed, is-held}
-use Rattle.rules.specs.Judging.{company, stands-before, HasCycle, has-cycle, given-places}
+use Rattle.rules.specs.Books.{Books, place-at, of-places, is-live, is-committed, is-held}
+use Rattle.rules.specs.Judging.{company, stands-before, HasCycle, has-cycle, given-places, given-order}
 use Rattle.rules.specs.Statements.{GivenOrder, GivenOrders}
 
 module _ (z : Size) (b : Books) (i : ℕ) where
@@ -36,9 +36,9 @@ module _ (z : Size) (b : Books) (i : ℕ) where
       (λ other. split (is-held (place-at b k)) (λ t. t) (λ f. absurd (false≢true (simp (or-false-left (is-live (place-at b k)) (is-committed (place-at b k)) f, or-false-right (is-live (place-at b k)) (is-committed (place-at b k)) f) at other))))
       (or-true (eqb k i) _ e)
 
-  pub given-order : GivenOrder z b i
+  given-order-right : GivenOrder z b i
   unfolding given-places
-  given-order =
+  given-order-right =
       record {
         cycle-told = (cycle-of-test, test-of-cycle);
         everybody = (
@@ -53,4 +53,14 @@ module _ (z : Size) (b : Books) (i : ℕ) where
       }
 
 pub given-orders : GivenOrders
-given-orders z b i = given-order z b i
+given-orders z b i = given-order-right z b i
+
+-- verdict and order depend on the places alone, and not on the record count
+module _ (z : Size) (b : Books) (i : ℕ) where
+  pub cycle-by-places : has-cycle z (of-places (b .places)) i ≡ has-cycle z b i
+  unfolding has-cycle stands-before company
+  cycle-by-places = refl
+
+  pub order-by-places : given-order z (of-places (b .places)) i ≡ given-order z b i
+  unfolding given-order given-places stands-before company
+  order-by-places = refl
