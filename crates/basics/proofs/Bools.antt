@@ -87,20 +87,14 @@ below-more {i} {n} h below last = elim (decLt i n) [ yes k ↦ below k | no k �
 pub equal-or-not {ℓ} : {X : Type ℓ} (a b : ℕ) → (a ≡ b → X) → ((a ≡ b → ⊥) → X) → X
 equal-or-not a b same other = elim (ℕ-discrete a b) [ yes e ↦ same e | no e ↦ other e ]
 
--- one of two tests, decided by the first or left to the second
-pub or-first : (a b : Bool) → a ≡ true → a ≡ a || b
-or-first true b e = refl
-or-first false b e = absurd (false≢true e)
+-- the first test passes, and the answer is as the second says
+pub and-second : {a b x : Bool} → a ≡ true → b ≡ x → a && b ≡ x
+and-second p q = rw p q
 
-pub or-second : (a b : Bool) → a ≡ false → b ≡ a || b
-or-second true b e = absurd (true≢false e)
-or-second false b e = refl
+-- the first test fails, and the answer is as the second says
+pub or-second : {a b x : Bool} → a ≡ false → b ≡ x → a || b ≡ x
+or-second p q = rw p q
 
--- both of two tests, decided by the first or left to the second
-pub and-first : (a b : Bool) → a ≡ false → a ≡ a && b
-and-first true b e = absurd (true≢false e)
-and-first false b e = refl
-
-pub and-second : (a b : Bool) → a ≡ true → b ≡ a && b
-and-second true b e = refl
-and-second false b e = absurd (false≢true e)
+-- the first test passes, and the answer is its own
+pub or-first : (a b : Bool) {x : Bool} → a ≡ x → x ≡ true → a || b ≡ x
+or-first a b p q = or-left a b (p ∙ q) ∙ sym q

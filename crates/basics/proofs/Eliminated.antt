@@ -9,16 +9,30 @@ use native.Mathlib.Omega.{arith}
 use lib.Dec.{ltb, eqb}
 use lib.ListN.{length}
 use borrow.Author.Tests.{ltb-true, ltb-false, lt-ltb, le-ltb}
-use Rattle.basics.specs.Below.{countBelow}
+use Rattle.basics.specs.Below.{anyBelow, countBelow}
 use Rattle.basics.specs.Lists.{member, distinct, keeps}
 use Rattle.basics.specs.Walk.{Walk, Cycle}
 use Rattle.basics.specs.Elimination.{clear, without, LeftPair, next, taken, eliminated, givesAll, TakesLowest, stop, take}
-use Rattle.basics.proofs.Bools.{split, clash, false-of-not, true-of-not, same-tests}
-use Rattle.basics.proofs.Below.{Agree, all-at, all-false, any-cong, all-cong, count-zero, count-at-most}
+use Rattle.basics.proofs.Bools.{split, clash, false-of-not, true-of-not, same-tests, and-both, and-fails-left, and-fails-right}
+use Rattle.basics.proofs.Below.{Agree, all-at, all-false, any-at, any-false, any-cong, all-cong, count-zero, count-at-most}
 use Rattle.basics.proofs.Search.{lowest-passes, lowest-key, lowest-none, lowest-cong, lowest-at-most, lowest-nobody}
 use Rattle.basics.proofs.Lists.{keeps-places, place}
 use Rattle.basics.proofs.Walk.{last-step, ranked-no-cycle}
 use Rattle.basics.proofs.Elimination.{clear-left, without-fewer, takes-members, takes-distinct, takes-keeps, takes-no-cycle, takes-missing, takes-unique, takes-length, Differ, cycle-without, stuck-cycle}
+
+module _ (n : ℕ) (before : ℕ → ℕ → Bool) where
+  -- by a pass over those left: who is left is clear if the pass finds nobody before him, and is not if it finds one; who is not left is not clear
+  pub clear-open : (left : ℕ → Bool) (m : ℕ) → left m ≡ true → anyBelow (λ k. left k && before k m) n ≡ false → clear n before left m ≡ true
+  unfolding clear
+  clear-open left m l none = and-both (left m) _ l (ap not none)
+
+  pub clear-blocked : (left : ℕ → Bool) (m : ℕ) → anyBelow (λ k. left k && before k m) n ≡ true → clear n before left m ≡ false
+  unfolding clear
+  clear-blocked left m some = and-fails-right (left m) _ (ap not some)
+
+  pub clear-gone : (left : ℕ → Bool) (m : ℕ) → left m ≡ false → clear n before left m ≡ false
+  unfolding clear
+  clear-gone left m l = and-fails-left (left m) _ l
 
 module _ (n : ℕ) (before : ℕ → ℕ → Bool) (key : ℕ → ℕ) where
   -- the next one is clear and has the lowest key; where there is none, nobody is clear
@@ -179,6 +193,13 @@ module _ (n : ℕ) (before : ℕ → ℕ → Bool) (key : ℕ → ℕ) where
   pub gives-all-stuck : (left : ℕ → Bool) → ((m : ℕ) → m < n → clear n before left m ≡ false) → (m : ℕ) → m < n → left m ≡ true
       → givesAll n before key left ≡ false
   gives-all-stuck left none m h l = cycle-not-all left (stuck-cycle n before left none m h l)
+
+  -- where nobody is clear, somebody is left exactly if not all are given
+  pub gives-all-left : (left : ℕ → Bool) → ((m : ℕ) → m < n → clear n before left m ≡ false) → anyBelow left n ≡ not (givesAll n before key left)
+  gives-all-left left none =
+      split (anyBelow left n)
+      (λ e. let r = any-at left n e in e ∙ sym (ap not (gives-all-stuck left none (r .0) (r .1) (r .2))))
+      (λ e. e ∙ sym (ap not (gives-all-empty left (any-false left n e))))
 
 -- where a list keeps a relation and holds both ends of each step, and no step leads from one to itself, there is no cycle
 pub keeps-no-cycle : {Step : ℕ → ℕ → Type 0} (before : ℕ → ℕ → Bool) (xs : List ℕ) → keeps before xs ≡ true

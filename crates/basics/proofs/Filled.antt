@@ -1,6 +1,6 @@
 -- Laws of an array that is filled from the front: its length, its elements, and one more number below the limit. Assumes nothing.
 use Prim.Native.Nat.{ℕ, zero, suc, _+_, _<_, _≤_}
-use mathlib.Core.Path.{_≡_, refl, _∙_, ap, ap₂, sym, subst}
+use mathlib.Core.Path.{_≡_, refl, _∙_, ap, sym, subst}
 use mathlib.Core.Logic.{_≢_}
 use mathlib.Core.Bool.{cond}
 use mathlib.Core.List.{List, []}
@@ -82,15 +82,19 @@ module _ {ℓ} {A : Type ℓ} (f : ℕ → A) (d : A) where
       (λ q. subst (λ (j : ℕ). cond (ltb j n) (f j) d ≡ cond (ltb j (n + 1)) (f j) d) (sym q) (rw (le-ltb n n (omega arith), lt-ltb n (n + 1) (omega arith), e)))
       (λ other. rw (ltb-more i n other)))
 
-  -- a loop that fills an array: a turn that stores, a turn that passes over, and its end
-  pub filled-stores : (xs : List A) (n w : ℕ) (v : A) → n < w → xs ≡ filledBelow f d n w → v ≡ f n → set xs n v ≡ filledBelow f d (n + 1) w
-  filled-stores xs n w v h e q = ap₂ (λ (ys : List A) (u : A). set ys n u) e q ∙ filled-more n w h
+-- a loop that fills an array from the front, one element a turn
+module _ {ℓ} {A : Type ℓ} (f : ℕ → A) (d : A) (n w : ℕ) {xs : List A} (so-far : xs ≡ filledBelow f d n w) where
+  -- the next one is set
+  pub filled-set : {ys : List A} {a : A} → n < w → a ≡ f n → ys ≡ set xs n a → ys ≡ filledBelow f d (n + 1) w
+  filled-set h e q = q ∙ rw (so-far, e) (filled-more f d n w h)
 
-  pub filled-passes : (xs : List A) (n w : ℕ) → xs ≡ filledBelow f d n w → f n ≡ d → xs ≡ filledBelow f d (n + 1) w
-  filled-passes xs n w e q = e ∙ filled-skips n w q
+  -- the next one is passed over
+  pub filled-passed : {ys : List A} → f n ≡ d → ys ≡ xs → ys ≡ filledBelow f d (n + 1) w
+  filled-passed e q = q ∙ so-far ∙ filled-skips f d n w e
 
-  pub filled-ends : (xs : List A) (i n w : ℕ) → xs ≡ filledBelow f d i w → i ≤ n → n ≤ i → xs ≡ filledBelow f d n w
-  filled-ends xs i n w e h k = e ∙ ap (λ (m : ℕ). filledBelow f d m w) (le-antisymm h k)
+  -- the limit is reached
+  pub filled-whole : (limit : ℕ) → n ≤ limit → limit ≤ n → xs ≡ filledBelow f d limit w
+  filled-whole limit h k = subst (λ (m : ℕ). xs ≡ filledBelow f d m w) (le-antisymm h k) so-far
 
 module _ {ℓ} {A : Type ℓ} (f g : ℕ → A) (d : A) where
   pub filled-cong : (n w : ℕ) → Agree n f g → filledBelow f d n w ≡ filledBelow g d n w

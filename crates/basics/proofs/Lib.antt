@@ -5,6 +5,7 @@ pub mod Elements
 pub mod Eliminated
 pub mod Elimination
 pub mod Filled
+pub mod Flags
 pub mod Lists
 pub mod SamePairs
 pub mod Says

@@ -3,7 +3,7 @@
 use mathlib.Core.Path.{_≡_, refl, sym, _∙_, ap, ap₂, subst}
 use mathlib.Core.Logic.{_⊎_, inl, inr, ⊎-elim, _↔_}
 use mathlib.Core.Bool.{Bool, true, false, not, cond, _&&_, _||_, true≢false, false≢true, and-assoc, or-assoc}
-use mathlib.Core.List.{List, [], _∷_, _++_, List·Memᴰ, List·Memᴰ·head, List·Memᴰ·tail}
+use mathlib.Core.List.{List, [], _∷_, _++_, map, List·Memᴰ, List·Memᴰ·head, List·Memᴰ·tail}
 use Prim.Native.Nat.{ℕ, suc, _+_, _<_, suc-le-suc}
 use lib.ListN.{length, drop, length-append}
 use lib.Seq.{drop-at}
@@ -257,3 +257,8 @@ pub same-end {ℓ} : {A : Type ℓ} (xs us ys vs : List A) → length us ≡ len
 same-end xs us ys vs l e =
     let whole : length xs + length us ≡ length ys + length vs = sym (length-append xs us) ∙ ap length e ∙ length-append ys vs in
     sym (drop-at xs us (length xs) (omega arith)) ∙ ap (drop (length xs)) e ∙ drop-at ys vs (length xs) (omega arith)
+
+-- two functions that agree on the numbers of a list map it to the same
+pub map-agrees : (f g : ℕ → ℕ) (xs : List ℕ) → ((k : ℕ) → member k xs ≡ true → f k ≡ g k) → map f xs ≡ map g xs
+map-agrees f g [] h = refl
+map-agrees f g (x ∷ xs) h = ap₂ (λ (y : ℕ) (ys : List ℕ). y ∷ ys) (h x (member-head x x xs refl)) (map-agrees f g xs (λ k m. h k (member-tail k x xs m)))

@@ -5,7 +5,7 @@ use mathlib.Core.Bool.{false}
 use native.Mathlib.Omega.{arith}
 use borrow.Author.Needs.{needs}
 use Rattle.basics.specs.Below.{filledBelow}
-use Rattle.basics.proofs.Filled.{filled-none, filled-stores, filled-ends}
+use Rattle.basics.proofs.Filled.{filled-none, filled-set, filled-whole}
 use Rattle.rules.specs.Sizes.{width}
 use Rattle.rules.specs.Books.{of-places, place-at, is-committed}
 use Rattle.place.proofs.columns.committed_of.Statement.{statement}
@@ -36,10 +36,10 @@ loop-less : tie.Need-loop-less Inv-loop μ-loop
 loop-less c = omega arith
 
 loop-again : tie.Need-loop-again Inv-loop μ-loop
-loop-again c = (omega arith, filled-stores (λ k. is-committed (place-at (of-places (c .before .before .before .args .t1)) k)) false (c .before .before .loop .committed) (c .before .before .loop .i) width _ (omega arith) (c .before .before .loop .inv .1) refl)
+loop-again c = (omega arith, filled-set _ _ _ _ (c .before .before .loop .inv .1) (omega arith) refl refl)
 
 returns : tie.Need-returns Inv-loop μ-loop
-returns c = filled-ends (λ k. is-committed (place-at (of-places (c .before .before .before .args .t1)) k)) false (c .before .before .loop .committed) (c .before .before .loop .i) (c .before .before .before .args .z .places) width (c .before .before .loop .inv .1) (c .before .before .loop .inv .0) (c .if1 .left)
+returns c = filled-whole _ _ _ _ (c .before .before .loop .inv .1) _ (c .before .before .loop .inv .0) (c .if1 .left)
 
 pub committed-of-spec : {M : Type 1} → statement M
 committed-of-spec =

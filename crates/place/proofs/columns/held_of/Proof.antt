@@ -1,11 +1,11 @@
 -- `place::columns::held_of` fills in which places are held, place by place. Assumes nothing.
 use Prim.Native.Nat.{_≤_, _-_}
-use mathlib.Core.Path.{_≡_}
+use mathlib.Core.Path.{_≡_, refl}
 use mathlib.Core.Bool.{false}
 use native.Mathlib.Omega.{arith}
 use borrow.Author.Needs.{needs}
 use Rattle.basics.specs.Below.{filledBelow}
-use Rattle.basics.proofs.Filled.{filled-none, filled-stores, filled-ends}
+use Rattle.basics.proofs.Filled.{filled-none, filled-set, filled-whole}
 use Rattle.rules.specs.Sizes.{width}
 use Rattle.rules.specs.Books.{of-places, place-at, is-held}
 use Rattle.place.proofs.columns.held_of.Statement.{statement}
@@ -39,10 +39,10 @@ loop-less : tie.Need-loop-less Inv-loop μ-loop
 loop-less c = omega arith
 
 loop-again : tie.Need-loop-again Inv-loop μ-loop
-loop-again c = (omega arith, filled-stores (λ k. is-held (place-at (of-places (c .before .before .before .before .args .t1)) k)) false (c .before .before .before .loop .held) (c .before .before .before .loop .i) width (c .is-held .result) (omega arith) (c .before .before .before .loop .inv .1) (c .is-held .ensures))
+loop-again c = (omega arith, filled-set _ _ _ _ (c .before .before .before .loop .inv .1) (omega arith) (c .is-held .ensures) refl)
 
 returns : tie.Need-returns Inv-loop μ-loop
-returns c = filled-ends (λ k. is-held (place-at (of-places (c .before .before .before .args .t1)) k)) false (c .before .before .loop .held) (c .before .before .loop .i) (c .before .before .before .args .z .places) width (c .before .before .loop .inv .1) (c .before .before .loop .inv .0) (c .if1 .left)
+returns c = filled-whole _ _ _ _ (c .before .before .loop .inv .1) _ (c .before .before .loop .inv .0) (c .if1 .left)
 
 pub held-of-spec : {M : Type 1} → statement M
 held-of-spec =
