@@ -10,4 +10,5 @@ pub mod Lists
 pub mod SamePairs
 pub mod Says
 pub mod Search
+pub mod Tested
 pub mod Walk

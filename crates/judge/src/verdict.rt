@@ -32,8 +32,8 @@ pub fn give_order(places: [Place; 32], i: usize, z: Size, numbers: &mut [u16]) -
     ensures count { λ r. ⌜ r ≡ length (given-order z (of-places places) i) ⌝ }
     ensures numbers { λ r. ⌜ now (numbers .exit) ≡ buffer-after (given-order z (of-places places) i) (now (numbers .entry)) ⌝ }
 {
-    let present = company::company_of(places, i, z);
-    let rows = square::square(places, present, z);
+    let members = company::company_of(places, i, z);
+    let rows = square::square(places, members, z);
     let begins = columns::begins_of(places, z);
-    order::put_order(rows, begins, present, z.places, numbers)
+    order::put_order(rows, begins, members, z.places, numbers)
 }

@@ -10,7 +10,7 @@ use Rattle.basics.specs.Below.{anyBelow}
 use Rattle.basics.proofs.Bools.{and-both, and-fails-left, and-second}
 use Rattle.basics.proofs.Below.{any-none, any-skips}
 use Rattle.judge.specs.Square.{is-in}
-use Rattle.judge.proofs.Pairs.{any-found, none-found}
+use Rattle.basics.proofs.Tested.{any-found, none-found}
 use Rattle.judge.proofs.marks.overlap.Statement.{statement}
 use Rattle.judge.proofs.marks.overlap.Tie as tie
 

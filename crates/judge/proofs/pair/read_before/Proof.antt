@@ -11,7 +11,7 @@ use borrow.Author.Needs.{needs}
 use Rattle.basics.specs.Below.{anyBelow}
 use Rattle.basics.proofs.Bools.{and-both, and-fails-left, and-second}
 use Rattle.basics.proofs.Below.{any-none, any-skips}
-use Rattle.judge.proofs.Pairs.{any-found, none-found}
+use Rattle.basics.proofs.Tested.{any-found, none-found}
 use Rattle.judge.proofs.pair.read_before.Statement.{statement}
 use Rattle.judge.proofs.pair.read_before.Tie as tie
 

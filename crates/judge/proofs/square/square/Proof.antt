@@ -13,6 +13,7 @@ use Rattle.rules.specs.Sizes.{width}
 use Rattle.rules.specs.Books.{of-places}
 use Rattle.judge.specs.Square.{is-in, row-of, square-of}
 use Rattle.basics.proofs.Filled.{filled-set, filled-passed, filled-whole}
+use Rattle.judge.proofs.Squares.{cond-passes, cond-fails}
 use Rattle.judge.proofs.square.square.Statement.{statement}
 use Rattle.judge.proofs.square.square.Tie as tie
 
@@ -48,8 +49,8 @@ loop-again c =
     let at-loop = c .before .before .before in (
       omega arith,
       ⊎-elim
-          (λ w. filled-set _ _ _ _ (at-loop .loop .inv .1) (omega arith) (w .1 .ensures ∙ sym (rw (w .0 .taken))) (w .2))
-          (λ w. filled-passed _ _ _ _ (at-loop .loop .inv .1) (rw (w .0 .left)) (w .1))
+          (λ w. filled-set _ _ _ _ (at-loop .loop .inv .1) (omega arith) (w .1 .ensures ∙ sym (cond-passes _ _ (w .0 .taken))) (w .2))
+          (λ w. filled-passed _ _ _ _ (at-loop .loop .inv .1) (cond-fails _ _ (w .0 .left)) (w .1))
           (c .if2 .came),
     )
 

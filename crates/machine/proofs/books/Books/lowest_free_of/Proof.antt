@@ -1,0 +1,74 @@
+-- `machine::books::Books::lowest_free_of` meets its contract. The loop's invariant: the search has found no free place below i. Assumes nothing.
+use Prim.Native.Nat.{ℕ, _≤_, _-_}
+use mathlib.Core.Path.{_≡_, sym, subst}
+use mathlib.Core.Bool.{Bool}
+use native.Mathlib.Omega.{arith}
+use borrow.Author.Tests.{eq-eqb, ne-eqb}
+use Rattle.basics.specs.Below.{leastBelow}
+use Rattle.basics.proofs.Search.{least-at-most, least-first, least-skips}
+use Rattle.rules.specs.Books.{is-free, place-at, lowest-free}
+use Rattle.machine.specs.declared.books.Books.{Books}
+use Rattle.machine.specs.View.{view}
+use Rattle.machine.proofs.books.Books.lowest_free_of.Statement.{statement}
+use Rattle.machine.proofs.books.Books.lowest_free_of.Tie as tie
+
+-- the place of that number is free
+abbrev free-at : Books → ℕ → Bool
+free-at b i = is-free (place-at (view b) i)
+
+abbrev Inv-loop : tie.InvT-loop
+Inv-loop z self i₀ i = (i ≤ z .places) × (leastBelow (free-at self) i ≡ i)
+
+abbrev μ-loop : tie.MeasureT-loop
+μ-loop z self i₀ i = z .places - i
+
+loop-holds : tie.Need-loop-holds Inv-loop μ-loop
+loop-holds c = omega (arith, least-at-most (free-at (c .args .t1)) 0)
+
+mul-if2 : tie.Need-mul-if2 Inv-loop μ-loop
+mul-if2 c = omega arith
+
+element-copy-out-if2 : tie.Need-element-copy-out-if2 Inv-loop μ-loop
+element-copy-out-if2 c = omega arith
+
+returns : tie.Need-returns Inv-loop μ-loop
+unfolding lowest-free
+returns c =
+    let s = c .before .before .before .before .args in
+    let loop = c .before .before .before .loop in
+    sym (least-first (free-at (s .t1)) (s .z .places) (loop .i) (c .before .if1 .taken) (loop .inv .1) (eq-eqb (place-at (view (s .t1)) (loop .i) .status) 0 (c .if2 .taken)))
+
+add-i : tie.Need-add-i Inv-loop μ-loop
+add-i c = omega arith
+
+loop-less : tie.Need-loop-less Inv-loop μ-loop
+loop-less c = omega arith
+
+loop-again : tie.Need-loop-again Inv-loop μ-loop
+loop-again c =
+    let s = c .before .before .before .before .args in
+    let loop = c .before .before .before .loop in
+    (omega arith, least-skips (free-at (s .t1)) (loop .i) (loop .inv .1) (ne-eqb (place-at (view (s .t1)) (loop .i) .status) 0 (c .if2 .left)))
+
+returns-2 : tie.Need-returns-2 Inv-loop μ-loop
+unfolding lowest-free
+returns-2 c =
+    let s = c .before .before .before .args in
+    let loop = c .before .before .loop in
+    let all : loop .i ≡ s .z .places = omega arith in
+    subst (λ (n : ℕ). n ≡ leastBelow (free-at (s .t1)) n) all (sym (loop .inv .1))
+
+pub lowest-free-of-spec : {M : Type 1} → statement M
+lowest-free-of-spec =
+    tie.close
+    (tie.spec
+    Inv-loop
+    μ-loop
+    loop-holds
+    mul-if2
+    element-copy-out-if2
+    returns
+    add-i
+    loop-less
+    loop-again
+    returns-2)
