@@ -1,3 +1,4 @@
+pub mod CycleAnswer
 pub mod Given
 pub mod Moments
 pub mod Next
