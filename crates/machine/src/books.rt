@@ -30,12 +30,12 @@ impl Books {
         requires { ⌜ Within z ⌝ }
         ensures { λ r. ⌜ r ≡ lowest-free z (view self) ⌝ }
     {
-        let mut i = 0;
-        while i < z.places {
-            if self.places[i].status == 0 {
-                return i;
+        let mut free = 0;
+        while free < z.places {
+            if self.places[free].status == 0 {
+                return free;
             }
-            i += 1;
+            free += 1;
         }
         z.places
     }

@@ -9,12 +9,11 @@ use lib.Dec.{ltb}
 use borrow.Author.Tests.{eq-eqb, ne-eqb}
 use borrow.Author.Needs.{needs}
 use Rattle.basics.specs.Below.{filledBelow}
-use Rattle.basics.proofs.Filled.{filled-none}
+use Rattle.basics.proofs.Filled.{filled-none, filled-set, filled-passed, filled-whole}
 use Rattle.basics.proofs.Bools.{and-fails-left, and-second}
 use Rattle.rules.specs.Books.{place-at, is-committed, of-places}
 use Rattle.rules.specs.Sizes.{width}
 use Rattle.rules.specs.Judging.{company}
-use Rattle.basics.proofs.Filled.{filled-set, filled-passed, filled-whole}
 use Rattle.judge.proofs.Moments.{company-itself, company-other}
 use Rattle.judge.proofs.company.company_of.Statement.{statement}
 use Rattle.judge.proofs.company.company_of.Tie as tie

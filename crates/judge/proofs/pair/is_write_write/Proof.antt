@@ -1,4 +1,4 @@
--- `judge::pair::is_write_write` meets its contract: each of the three tests that fails makes "write then write" fail, and past them it is what `shares_cell` says.
+-- `judge::pair::is_write_write` meets its contract: each of the three tests that fails makes "write then write" fail, and past them it is what `marks::overlap` says.
 -- Assumes nothing.
 use mathlib.Core.Path.{sym}
 use mathlib.Core.Logic.{⊎-elim}

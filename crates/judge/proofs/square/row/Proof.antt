@@ -7,13 +7,12 @@ use mathlib.Core.Logic.{⊎-elim}
 use native.Mathlib.Omega.{arith}
 use borrow.Author.Needs.{needs}
 use Rattle.basics.specs.Below.{filledBelow}
-use Rattle.basics.proofs.Filled.{filled-none}
+use Rattle.basics.proofs.Filled.{filled-none, filled-set, filled-passed, filled-whole}
 use Rattle.basics.proofs.Bools.{and-fails-left, and-second}
 use Rattle.rules.specs.Sizes.{width}
 use Rattle.rules.specs.Books.{of-places}
 use Rattle.rules.specs.Judging.{stands-before}
 use Rattle.judge.specs.Square.{is-in, row-of}
-use Rattle.basics.proofs.Filled.{filled-set, filled-passed, filled-whole}
 use Rattle.judge.proofs.Squares.{stands-other, stands-itself}
 use Rattle.judge.proofs.square.row.Statement.{statement}
 use Rattle.judge.proofs.square.row.Tie as tie

@@ -8,11 +8,10 @@ use native.Mathlib.Omega.{arith}
 use lib.ListN.{replicate}
 use borrow.Author.Needs.{needs}
 use Rattle.basics.specs.Below.{filledBelow}
-use Rattle.basics.proofs.Filled.{filled-none}
+use Rattle.basics.proofs.Filled.{filled-none, filled-set, filled-passed, filled-whole}
 use Rattle.rules.specs.Sizes.{width}
 use Rattle.rules.specs.Books.{of-places}
 use Rattle.judge.specs.Square.{is-in, row-of, square-of}
-use Rattle.basics.proofs.Filled.{filled-set, filled-passed, filled-whole}
 use Rattle.judge.proofs.Squares.{cond-passes, cond-fails}
 use Rattle.judge.proofs.square.square.Statement.{statement}
 use Rattle.judge.proofs.square.square.Tie as tie

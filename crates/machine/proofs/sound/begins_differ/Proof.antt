@@ -1,8 +1,10 @@
 -- `machine::sound::begins_differ` meets its contract: what `are_apart` says of the columns, `differ` says of the books.
 -- Rests on the contracts of `held_of`, `begins_of` and `are_apart`.
-use mathlib.Core.Path.{_∙_}
+use mathlib.Core.Path.{_≡_, _∙_}
 use borrow.Author.Needs.{needs}
+use Rattle.basics.specs.Below.{allBelow}
 use Rattle.rules.specs.Books.{of-places, is-held}
+use Rattle.machine.specs.Apart.{apart}
 use Rattle.machine.proofs.Differ.{apart-is-differ}
 use Rattle.machine.proofs.sound.begins_differ.Statement.{statement}
 use Rattle.machine.proofs.sound.begins_differ.Tie as tie
@@ -22,8 +24,8 @@ returns c =
     let s = start .args in
     let passing = c .before .before .held-of in
     let keys = c .before .begins-of in
-    c .are-apart .ensures
-    ∙ apart-is-differ (s .z) (start .pre .places) (of-places (s .places)) is-held (λ p. p .begin) (passing .result) (keys .result) (passing .ensures) (keys .ensures)
+    let answer : c .are-apart .result ≡ allBelow (apart (passing .result) (keys .result)) (s .z .places) = c .are-apart .ensures in
+    answer ∙ apart-is-differ (s .z) (start .pre .places) (of-places (s .places)) is-held (λ p. p .begin) (passing .result) (keys .result) (passing .ensures) (keys .ensures)
 
 pub begins-differ-spec : {M : Type 1} → statement M
 begins-differ-spec =

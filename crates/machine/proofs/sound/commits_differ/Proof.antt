@@ -1,8 +1,10 @@
 -- `machine::sound::commits_differ` meets its contract: what `are_apart` says of the columns, `differ` says of the books.
 -- Rests on the contracts of `committed_of`, `commits_of` and `are_apart`.
-use mathlib.Core.Path.{_∙_}
+use mathlib.Core.Path.{_≡_, _∙_}
 use borrow.Author.Needs.{needs}
+use Rattle.basics.specs.Below.{allBelow}
 use Rattle.rules.specs.Books.{of-places, is-committed}
+use Rattle.machine.specs.Apart.{apart}
 use Rattle.machine.proofs.Differ.{apart-is-differ}
 use Rattle.machine.proofs.sound.commits_differ.Statement.{statement}
 use Rattle.machine.proofs.sound.commits_differ.Tie as tie
@@ -22,8 +24,8 @@ returns c =
     let s = start .args in
     let passing = c .before .before .committed-of in
     let keys = c .before .commits-of in
-    c .are-apart .ensures
-    ∙ apart-is-differ (s .z) (start .pre .places) (of-places (s .places)) is-committed (λ p. p .commit) (passing .result) (keys .result) (passing .ensures) (keys .ensures)
+    let answer : c .are-apart .result ≡ allBelow (apart (passing .result) (keys .result)) (s .z .places) = c .are-apart .ensures in
+    answer ∙ apart-is-differ (s .z) (start .pre .places) (of-places (s .places)) is-committed (λ p. p .commit) (passing .result) (keys .result) (passing .ensures) (keys .ensures)
 
 pub commits-differ-spec : {M : Type 1} → statement M
 commits-differ-spec =

@@ -1,4 +1,4 @@
--- `machine::books::Books::lowest_free_of` meets its contract. The loop's invariant: the search has found no free place below i. Assumes nothing.
+-- `machine::books::Books::lowest_free_of` meets its contract. The loop's invariant: the search has found no free place so far. Assumes nothing.
 use Prim.Native.Nat.{ℕ, _≤_, _-_}
 use mathlib.Core.Path.{_≡_, sym, subst}
 use mathlib.Core.Bool.{Bool}
@@ -17,10 +17,10 @@ abbrev free-at : Books → ℕ → Bool
 free-at b i = is-free (place-at (view b) i)
 
 abbrev Inv-loop : tie.InvT-loop
-Inv-loop z self i₀ i = (i ≤ z .places) × (leastBelow (free-at self) i ≡ i)
+Inv-loop z self free₀ free = (free ≤ z .places) × (leastBelow (free-at self) free ≡ free)
 
 abbrev μ-loop : tie.MeasureT-loop
-μ-loop z self i₀ i = z .places - i
+μ-loop z self free₀ free = z .places - free
 
 loop-holds : tie.Need-loop-holds Inv-loop μ-loop
 loop-holds c = omega (arith, least-at-most (free-at (c .args .t1)) 0)
@@ -36,10 +36,10 @@ unfolding lowest-free
 returns c =
     let s = c .before .before .before .before .args in
     let loop = c .before .before .before .loop in
-    sym (least-first (free-at (s .t1)) (s .z .places) (loop .i) (c .before .if1 .taken) (loop .inv .1) (eq-eqb (place-at (view (s .t1)) (loop .i) .status) 0 (c .if2 .taken)))
+    sym (least-first (free-at (s .t1)) (s .z .places) (loop .free) (c .before .if1 .taken) (loop .inv .1) (eq-eqb (place-at (view (s .t1)) (loop .free) .status) 0 (c .if2 .taken)))
 
-add-i : tie.Need-add-i Inv-loop μ-loop
-add-i c = omega arith
+add-free : tie.Need-add-free Inv-loop μ-loop
+add-free c = omega arith
 
 loop-less : tie.Need-loop-less Inv-loop μ-loop
 loop-less c = omega arith
@@ -48,14 +48,14 @@ loop-again : tie.Need-loop-again Inv-loop μ-loop
 loop-again c =
     let s = c .before .before .before .before .args in
     let loop = c .before .before .before .loop in
-    (omega arith, least-skips (free-at (s .t1)) (loop .i) (loop .inv .1) (ne-eqb (place-at (view (s .t1)) (loop .i) .status) 0 (c .if2 .left)))
+    (omega arith, least-skips (free-at (s .t1)) (loop .free) (loop .inv .1) (ne-eqb (place-at (view (s .t1)) (loop .free) .status) 0 (c .if2 .left)))
 
 returns-2 : tie.Need-returns-2 Inv-loop μ-loop
 unfolding lowest-free
 returns-2 c =
     let s = c .before .before .before .args in
     let loop = c .before .before .loop in
-    let all : loop .i ≡ s .z .places = omega arith in
+    let all : loop .free ≡ s .z .places = omega arith in
     subst (λ (n : ℕ). n ≡ leastBelow (free-at (s .t1)) n) all (sym (loop .inv .1))
 
 pub lowest-free-of-spec : {M : Type 1} → statement M
@@ -68,7 +68,7 @@ lowest-free-of-spec =
     mul-if2
     element-copy-out-if2
     returns
-    add-i
+    add-free
     loop-less
     loop-again
     returns-2)
