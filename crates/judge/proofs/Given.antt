@@ -17,8 +17,7 @@ use Rattle.rules.specs.declared.Size.{Size}
 use Rattle.rules.specs.Sizes.{Within, width}
 use Rattle.rules.specs.Books.{Books, place-at}
 use Rattle.rules.specs.Judging.{company, stands-before, has-cycle, given-places, given-order}
-use Rattle.judge.specs.Square.{is-in, said-before, square-of}
-use Rattle.judge.proofs.Next.{begin}
+use Rattle.judge.specs.Square.{is-in, said-before, square-of, begin-of}
 use Rattle.judge.proofs.Squares.{present-says, square-says}
 
 module _ (z : Size) (within : Within z) (b : Books) (i : ℕ) (present : List Bool) (rows : List (List Bool))
@@ -40,24 +39,24 @@ module _ (z : Size) (within : Within z) (b : Books) (i : ℕ) (present : List Bo
       ∙ gives-all-cong (z .places) (stands-before z b) (stands-before z b) (λ k m h g. refl) key key (λ k h. refl) (is-in present) (company z b i) present-company)
 
   module _ (begins : List ℕ) (begins-right : begins ≡ filledBelow (λ k. place-at b k .begin) 0 (z .places) width) where
-    begin-right : Agree (z .places) (begin begins) (λ k. place-at b k .begin)
+    begin-right : Agree (z .places) (begin-of begins) (λ k. place-at b k .begin)
     begin-right k h =
-        ap (λ (xs : List ℕ). begin xs k) begins-right
+        ap (λ (xs : List ℕ). begin-of xs k) begins-right
         ∙ filled-at (λ j. place-at b j .begin) 0 (z .places) width k 0 (omega (arith, within .places)) h
 
-    places-right : eliminated (z .places) (said-before rows) (begin begins) (is-in present) ≡ given-places z b i
+    places-right : eliminated (z .places) (said-before rows) (begin-of begins) (is-in present) ≡ given-places z b i
     unfolding given-places
     places-right =
-        eliminated-same (z .places) (said-before rows) (stands-before z b) (begin begins) (is-in present) said-stands
-        ∙ eliminated-cong (z .places) (stands-before z b) (stands-before z b) (λ k m h g. refl) (begin begins) (λ k. place-at b k .begin) begin-right (is-in present) (company z b i) present-company
+        eliminated-same (z .places) (said-before rows) (stands-before z b) (begin-of begins) (is-in present) said-stands
+        ∙ eliminated-cong (z .places) (stands-before z b) (stands-before z b) (λ k m h g. refl) (begin-of begins) (λ k. place-at b k .begin) begin-right (is-in present) (company z b i) present-company
 
-    pub order-right : map (begin begins) (eliminated (z .places) (said-before rows) (begin begins) (is-in present)) ≡ given-order z b i
+    pub order-right : map (begin-of begins) (eliminated (z .places) (said-before rows) (begin-of begins) (is-in present)) ≡ given-order z b i
     unfolding given-order
     order-right =
-        map-agrees (begin begins) (λ k. place-at b k .begin) (eliminated (z .places) (said-before rows) (begin begins) (is-in present))
-        (λ k m. begin-right k (eliminated-members (z .places) (said-before rows) (begin begins) (is-in present) k m .0))
+        map-agrees (begin-of begins) (λ k. place-at b k .begin) (eliminated (z .places) (said-before rows) (begin-of begins) (is-in present))
+        (λ k m. begin-right k (eliminated-members (z .places) (said-before rows) (begin-of begins) (is-in present) k m .0))
         ∙ ap (map (λ k. place-at b k .begin)) places-right
 
-    pub count-right : length (eliminated (z .places) (said-before rows) (begin begins) (is-in present)) ≡ length (given-order z b i)
+    pub count-right : length (eliminated (z .places) (said-before rows) (begin-of begins) (is-in present)) ≡ length (given-order z b i)
     unfolding given-order
     count-right = ap length places-right ∙ sym (simp length-map)

@@ -3,17 +3,11 @@
 use mathlib.Core.Path.{_≡_, refl, sym, _∙_}
 use mathlib.Core.Logic.{_⊎_, ⊎-elim}
 use mathlib.Core.Bool.{Bool, true, false}
-use mathlib.Core.List.{List}
 use Prim.Native.Nat.{ℕ, _+_, _<_, _≤_}
 use native.Mathlib.Omega.{arith}
-use lib.ListN.{getD}
 use Rattle.basics.specs.Below.{lowestBelow}
 use Rattle.basics.proofs.Search.{lowest-skips, lowest-starts, lowest-lower, lowest-kept, lowest-at-most}
 use Rattle.basics.proofs.Bools.{clash}
-
--- the key: the begin record of the one at that place
-abbrev pub begin : List ℕ → ℕ → ℕ
-begin begins k = getD begins k 0
 
 -- of m places none passes and the limit stands, or the lowest of those that pass is found
 pub data FoundSoFar (p : ℕ → Bool) (key : ℕ → ℕ) (n m found : ℕ) : Type 0 where

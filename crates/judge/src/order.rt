@@ -2,17 +2,17 @@
 ghost use mathlib.Core.Path.{_≡_};
 ghost use mathlib.Core.List.{map};
 ghost use Prim.Native.Nat.{_≤_};
-ghost use lib.ListN.{length, getD};
-ghost use Rattle.basics.specs.Elimination.{next, eliminated};
+ghost use lib.ListN.{length};
+ghost use Rattle.basics.specs.Elimination.{next};
 ghost use Rattle.rules.specs.Sizes.{width};
 ghost use Rattle.rules.specs.State.{buffer-after};
-ghost use Rattle.judge.specs.Square.{is-in, said-before};
+ghost use Rattle.judge.specs.Square.{is-in, said-before, begin-of, ordered};
 use crate::marks;
 
 // The one to take next, with nobody left before him; the number of places if nobody can be taken.
 fn next_of(rows: [[bool; 32]; 32], begins: [u16; 32], left: [bool; 32], places: usize) -> usize
     requires { ⌜ places ≤ width ⌝ }
-    ensures { λ r. ⌜ r ≡ next places (said-before rows) (λ k. getD begins k 0) (is-in left) ⌝ }
+    ensures { λ r. ⌜ r ≡ next places (said-before rows) (begin-of begins) (is-in left) ⌝ }
 {
     let mut found = places;
     let mut m = 0;
@@ -36,8 +36,8 @@ pub fn put_order(
     order: &mut [u16],
 ) -> usize
     requires { ⌜ (places ≤ width) × (places ≤ length (now order)) ⌝ }
-    ensures count { λ r. ⌜ r ≡ length (eliminated places (said-before rows) (λ k. getD begins k 0) (is-in present)) ⌝ }
-    ensures numbers { λ r. ⌜ now (order .exit) ≡ buffer-after (map (λ k. getD begins k 0) (eliminated places (said-before rows) (λ k. getD begins k 0) (is-in present))) (now (order .entry)) ⌝ }
+    ensures count { λ r. ⌜ r ≡ length (ordered rows begins present places) ⌝ }
+    ensures numbers { λ r. ⌜ now (order .exit) ≡ buffer-after (map (begin-of begins) (ordered rows begins present places)) (now (order .entry)) ⌝ }
 {
     let mut left = present;
     let mut count = 0;

@@ -1,12 +1,9 @@
 // The four kinds of pair: whether K stands before M.
 ghost use mathlib.Core.Path.{_≡_};
-ghost use mathlib.Core.Bool.{false, _&&_};
 ghost use Prim.Native.Nat.{_≤_};
-ghost use lib.ListN.{getD};
-ghost use lib.Dec.{leb, ltb};
-ghost use Rattle.basics.specs.Below.{anyBelow};
 ghost use Rattle.rules.specs.Sizes.{Within, width};
 ghost use Rattle.rules.specs.Judging.{real-time, write-write, write-read, read-write, precedes};
+ghost use Rattle.judge.specs.Cells.{read-after-of, read-before-of};
 use crate::marks;
 use rules::Place;
 use rules::Size;
@@ -14,7 +11,7 @@ use rules::Size;
 // A written cell whose last judged read comes after the commit.
 fn read_after(written: [bool; 32], commit: u16, last: [u16; 32], cells: usize) -> bool
     requires { ⌜ cells ≤ width ⌝ }
-    ensures { λ r. ⌜ r ≡ anyBelow (λ c. getD written c false && ltb commit (getD last c 0)) cells ⌝ }
+    ensures { λ r. ⌜ r ≡ read-after-of written commit last cells ⌝ }
 {
     let mut c = 0;
     while c < cells {
@@ -29,7 +26,7 @@ fn read_after(written: [bool; 32], commit: u16, last: [u16; 32], cells: usize) -
 // A written cell whose first judged read comes before the commit.
 fn read_before(first: [u16; 32], written: [bool; 32], commit: u16, cells: usize) -> bool
     requires { ⌜ cells ≤ width ⌝ }
-    ensures { λ r. ⌜ r ≡ anyBelow (λ c. getD written c false && (leb 1 (getD first c 0) && ltb (getD first c 0) commit)) cells ⌝ }
+    ensures { λ r. ⌜ r ≡ read-before-of first written commit cells ⌝ }
 {
     let mut c = 0;
     while c < cells {

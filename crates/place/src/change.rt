@@ -1,11 +1,9 @@
 // How a place changes. Each takes the place by value and hands the changed one back; document 01's definition of the change is its promise.
 ghost use mathlib.Core.Path.{_≡_};
-ghost use mathlib.Core.Bool.{cond};
 ghost use Prim.Native.Nat.{_<_};
-ghost use lib.Dec.{eqb};
 ghost use Rattle.rules.specs.Sizes.{width};
 ghost use Rattle.place.specs.Blank.{blank};
-ghost use Rattle.rules.specs.Books.{freed, begun, posted, marked, read-marked, sealed};
+ghost use Rattle.rules.specs.Books.{freed, begun, posted, marked, first-kept, read-marked, sealed};
 use crate::handle;
 use rules::Place;
 
@@ -66,7 +64,7 @@ pub fn mark(p: Place, cell: usize) -> Place
 
 // The first judged read of a cell once there is one at the record of number n: an earlier one is kept.
 fn first_of(earlier: u16, n: u16) -> u16
-    ensures { λ r. ⌜ r ≡ cond (eqb earlier 0) n earlier ⌝ }
+    ensures { λ r. ⌜ r ≡ first-kept earlier n ⌝ }
 {
     if earlier == 0 { n } else { earlier }
 }

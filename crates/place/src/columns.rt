@@ -1,16 +1,15 @@
 // What every place has of one kind, as an array: the columns of the books.
 ghost use mathlib.Core.Path.{_≡_};
-ghost use mathlib.Core.Bool.{false, _||_};
-ghost use lib.Dec.{eqb};
+ghost use mathlib.Core.Bool.{false};
 ghost use Rattle.basics.specs.Below.{filledBelow};
 ghost use Rattle.rules.specs.Sizes.{Within, width};
-ghost use Rattle.rules.specs.Books.{of-places, place-at, is-committed, is-held};
+ghost use Rattle.rules.specs.Books.{of-places, place-at, is-committed, held-status, is-held};
 use rules::Place;
 use rules::Size;
 
 // A held place is live or committed.
 fn is_held(status: u8) -> bool
-    ensures { λ r. ⌜ r ≡ (eqb status 1 || eqb status 2) ⌝ }
+    ensures { λ r. ⌜ r ≡ held-status status ⌝ }
 {
     status == 1 || status == 2
 }

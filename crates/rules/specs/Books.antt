@@ -26,8 +26,11 @@ abbrev pub is-committed : Place → Bool
 is-committed p = eqb (p .status) 2
 
 -- a held place is live or committed
+abbrev pub held-status : ℕ → Bool
+held-status status = eqb status 1 || eqb status 2
+
 abbrev pub is-held : Place → Bool
-is-held p = is-live p || is-committed p
+is-held p = held-status (p .status)
 
 -- ---- what a place holds for a cell
 
@@ -72,9 +75,13 @@ posted p c n = record { turn = next-turn (p .turn); status = 2; begin = n; commi
 unfoldable pub marked : Place → ℕ → Place
 marked p c = record { turn = p .turn; status = p .status; begin = p .begin; commit = p .commit; written = set (p .written) c true; first = p .first; last = p .last }
 
+-- the first judged read once there is one at record n: an earlier one is kept
+abbrev pub first-kept : ℕ → ℕ → ℕ
+first-kept earlier n = cond (eqb earlier 0) n earlier
+
 -- a judged read of the cell at record n: the first is kept, the last moves
 unfoldable pub read-marked : Place → ℕ → ℕ → Place
-read-marked p c n = record { turn = p .turn; status = p .status; begin = p .begin; commit = p .commit; written = p .written; first = set (p .first) c (cond (eqb (first-read p c) 0) n (first-read p c)); last = set (p .last) c n }
+read-marked p c n = record { turn = p .turn; status = p .status; begin = p .begin; commit = p .commit; written = p .written; first = set (p .first) c (first-kept (first-read p c) n); last = set (p .last) c n }
 
 -- committed at record n
 unfoldable pub sealed : Place → ℕ → Place

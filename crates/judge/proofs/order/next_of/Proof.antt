@@ -10,8 +10,8 @@ use borrow.Author.Needs.{needs}
 use borrow.Author.Tests.{ltb-true, ltb-false, not-true, not-false}
 use Rattle.basics.specs.Elimination.{clear, next}
 use Rattle.basics.proofs.Eliminated.{clear-open, clear-blocked, clear-gone}
-use Rattle.judge.specs.Square.{is-in, said-before}
-use Rattle.judge.proofs.Next.{begin, FoundSoFar, found-none, found-at-most, found-skips, found-here, found-stays, found-all}
+use Rattle.judge.specs.Square.{is-in, said-before, begin-of}
+use Rattle.judge.proofs.Next.{FoundSoFar, found-none, found-at-most, found-skips, found-here, found-stays, found-all}
 use Rattle.judge.proofs.order.next_of.Statement.{statement}
 use Rattle.judge.proofs.order.next_of.Tie as tie
 
@@ -20,7 +20,7 @@ abbrev free : ℕ → List (List Bool) → List Bool → ℕ → Bool
 free places rows left = clear places (said-before rows) (is-in left)
 
 abbrev Inv-loop : tie.InvT-loop
-Inv-loop places rows begins left found₀ m₀ found m = (m ≤ places) × FoundSoFar (free places rows left) (begin begins) places m found
+Inv-loop places rows begins left found₀ m₀ found m = (m ≤ places) × FoundSoFar (free places rows left) (begin-of begins) places m found
 
 abbrev μ-loop : tie.MeasureT-loop
 μ-loop places rows begins left found₀ m₀ found m = places - m
@@ -28,7 +28,7 @@ abbrev μ-loop : tie.MeasureT-loop
 loop-holds : tie.Need-loop-holds Inv-loop μ-loop
 loop-holds c =
     let a = c .args in
-    (omega arith, found-none (free (a .places) (a .t1) (a .t3)) (begin (a .t2)) (a .places))
+    (omega arith, found-none (free (a .places) (a .t1) (a .t3)) (begin-of (a .t2)) (a .places))
 
 -- what is found is a place, or the number of places
 at-most : (c : tie.At-loop Inv-loop μ-loop) → c .loop .found ≤ c .before .args .places
@@ -71,7 +71,7 @@ loop-again c =
     let m = loop .m in
     let before = said-before (a .t1) in
     let left = is-in (a .t3) in
-    let key = begin (a .t2) in
+    let key = begin-of (a .t2) in
     let found = loop .inv .1 in
     let Then = FoundSoFar (free (a .places) (a .t1) (a .t3)) key (a .places) (m + 1) in
     let taken = c .before .loop-test .taken in (
@@ -100,7 +100,7 @@ returns c =
     let a = c .before .before .args in
     let loop = c .before .loop in
     let end : loop .m ≡ a .places = omega arith in
-    found-all (subst (λ (m : ℕ). FoundSoFar (free (a .places) (a .t1) (a .t3)) (begin (a .t2)) (a .places) m (loop .found)) end (loop .inv .1))
+    found-all (subst (λ (m : ℕ). FoundSoFar (free (a .places) (a .t1) (a .t3)) (begin-of (a .t2)) (a .places) m (loop .found)) end (loop .inv .1))
 
 pub next-of-spec : {M : Type 1} → statement M
 next-of-spec =

@@ -6,14 +6,13 @@ use native.Mathlib.Omega.{arith}
 use borrow.Author.Needs.{needs}
 use lib.ListN.{length}
 use Rattle.basics.proofs.Eliminated.{next-at-most}
-use Rattle.judge.specs.Square.{is-in, said-before}
-use Rattle.judge.proofs.Next.{begin}
+use Rattle.judge.specs.Square.{is-in, said-before, begin-of}
 use Rattle.judge.proofs.Rounds.{PutSoFar, put-none, put-length, put-more, put-all, put-full}
 use Rattle.judge.proofs.order.put_order.Statement.{statement}
 use Rattle.judge.proofs.order.put_order.Tie as tie
 
 abbrev Inv-loop : tie.InvT-loop
-Inv-loop rows places order₀ begins left₀ count₀ order left count = PutSoFar places (said-before rows) (begin begins) left₀ left count order₀ order
+Inv-loop rows places order₀ begins left₀ count₀ order left count = PutSoFar places (said-before rows) (begin-of begins) left₀ left count order₀ order
 
 abbrev μ-loop : tie.MeasureT-loop
 μ-loop rows places order₀ begins left₀ count₀ order left count = places - count
@@ -21,7 +20,7 @@ abbrev μ-loop : tie.MeasureT-loop
 loop-holds : tie.Need-loop-holds Inv-loop μ-loop
 loop-holds c =
     let a = c .before .args in
-    put-none (a .places) (said-before (a .rows)) (begin (a .t2)) (a .present) (a .order .now)
+    put-none (a .places) (said-before (a .rows)) (begin-of (a .t2)) (a .present) (a .order .now)
 
 -- the buffer keeps its length
 long : (c : tie.At-loop Inv-loop μ-loop) → length (c .loop .order) ≡ length (c .before .before .args .order .now)
@@ -31,7 +30,7 @@ long c = put-length (c .loop .inv) (c .before .before .pre .1)
 below : (c : tie.Else1 Inv-loop μ-loop) → c .before .next-of .result < c .before .before .before .before .before .args .places
 below c =
     let a = c .before .before .before .before .before .args in
-    let most = next-at-most (a .places) (said-before (a .rows)) (begin (a .t2)) (is-in (c .before .before .before .loop .left)) in
+    let most = next-at-most (a .places) (said-before (a .rows)) (begin-of (a .t2)) (is-in (c .before .before .before .loop .left)) in
     let here = c .before .next-of .ensures in
     omega arith
 
