@@ -1,2 +1,1 @@
-pub mod Differ
 pub mod SoundAnswer

@@ -7,6 +7,6 @@ use Rattle.rules.specs.Sound.{sound, Sound}
 use Rattle.machine.specs.declared.books.Books.{Books}
 use Rattle.machine.specs.View.{view}
 
--- what `is_sound_of` promises of its answer r, of whatever books: it is true exactly if the clauses of soundness hold
+-- what `is_sound` promises of its answer r, of whatever books: it is true exactly if the clauses of soundness hold
 abbrev pub AnswerSaysSound : Type 0
 AnswerSaysSound = (z : Size) (b : Books) (r : Bool) → r ≡ sound z (view b) → (r ≡ true) ↔ Sound z (view b)

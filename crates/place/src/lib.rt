@@ -1,5 +1,6 @@
-// A place's changes, handles, the gate that a call on a handle passes, and the places' columns.
+// A place's changes, handles, the gate that a call on a handle passes, the places' columns, and searches over them.
 pub mod change;
 pub mod columns;
 pub mod gate;
 pub mod handle;
+pub mod search;

@@ -9,8 +9,8 @@ use native.Mathlib.Omega.{arith}
 use Rattle.basics.proofs.Bools.{equal-or-not}
 use Rattle.basics.proofs.Elements.{getD-map-within}
 use Rattle.rules.specs.declared.Place.{Place}
-use Rattle.rules.specs.Sizes.{width}
-use Rattle.rules.specs.Books.{Books, Shaped, place-at, no-place, freed, begun, posted, marked, read-marked, sealed, with-place, with-record, opened, closed}
+use Rattle.rules.specs.Sizes.{Size, width}
+use Rattle.rules.specs.Books.{Books, Shaped, place-at, no-place, freed, begun, posted, marked, read-marked, sealed, with-place, with-record, opened, closed, of-places, lowest-free, live-count}
 
 -- ---- one place
 
@@ -100,3 +100,13 @@ shaped-with-place {b} i {p} w s =
     shaped-of (length-set (b .places) i p ∙ s .places) λ j h.
     equal-or-not j i (λ e. subst (λ (k : ℕ). Wide (place-at (with-place b i p) k)) (sym e) (subst Wide (sym (place-at-same i p s (subst (λ (k : ℕ). k < width) e h))) w))
     (λ other. subst Wide (sym (place-at-other b i j p other)) (shaped-wide j s h))
+
+-- who is free and who is live depends on the places alone, and not on the record count
+module _ (z : Size) (b : Books) where
+  pub free-by-places : lowest-free z (of-places (b .places)) ≡ lowest-free z b
+  unfolding lowest-free
+  free-by-places = refl
+
+  pub live-by-places : live-count z (of-places (b .places)) ≡ live-count z b
+  unfolding live-count
+  live-by-places = refl

@@ -97,9 +97,13 @@ no-place = record { turn = 0; status = 0; begin = 0; commit = 0; written = []; f
 abbrev pub place-at : Books → ℕ → Place
 place-at b i = getD (b .places) i no-place
 
+-- books by their record count and their places
+abbrev pub books-of : ℕ → List Place → Books
+books-of records places = record { records = records; places = places }
+
 -- books with these places, for what does not depend on the record count
 abbrev pub of-places : List Place → Books
-of-places places = record { records = 0; places = places }
+of-places places = books-of 0 places
 
 -- one record more, and the place of that number changed
 unfoldable pub with-place : Books → ℕ → Place → Books

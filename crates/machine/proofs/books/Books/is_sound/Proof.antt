@@ -1,4 +1,4 @@
--- `machine::books::Books::is_sound` meets its contract: it asks for the yard's size. Rests on the contracts of `yard_size` and `is_sound_of`.
+-- `machine::books::Books::is_sound` meets its contract: it asks for the yard's size. Rests on the contracts of `yard_size` and `are_sound`.
 use mathlib.Core.Path.{sym, _∙_, ap, subst}
 use native.Mathlib.Omega.{arith}
 use borrow.Author.Needs.{needs}
@@ -15,11 +15,11 @@ yard-within = record { places = omega arith; cells = omega arith }
 yard-size-requires : tie.Need-yard-size-requires
 yard-size-requires c κs = search needs
 
-is-sound-of-requires : tie.Need-is-sound-of-requires
-is-sound-of-requires c κs = subst Within (sym (c .yard-size .ensures)) yard-within
+are-sound-requires : tie.Need-are-sound-requires
+are-sound-requires c κs = subst Within (sym (c .yard-size .ensures)) yard-within
 
 returns : tie.Need-returns
-returns c = c .is-sound-of .ensures ∙ ap (λ (z : Size). sound z (view (c .before .before .args .self))) (c .before .yard-size .ensures)
+returns c = c .are-sound .ensures ∙ ap (λ (z : Size). sound z (view (c .before .before .before .args .self))) (c .before .yard-size .ensures)
 
 pub is-sound-spec : {M : Type 1} → statement M
-is-sound-spec = tie.close (tie.spec yard-size-requires is-sound-of-requires returns)
+is-sound-spec = tie.close (tie.spec yard-size-requires are-sound-requires returns)

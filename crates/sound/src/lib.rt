@@ -1,0 +1,3 @@
+// Whether books are sound.
+pub mod clauses;
+pub mod whole;
