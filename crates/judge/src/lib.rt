@@ -1,8 +1,4 @@
-// What is judged: moment and company, the pairs, the search for a cycle, and the given order.
-pub mod company;
+// What is judged: the search for a cycle, the given order, and the verdict.
 pub mod cycle;
-pub mod marks;
 pub mod order;
-pub mod pair;
-pub mod square;
 pub mod verdict;

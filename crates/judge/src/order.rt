@@ -6,8 +6,8 @@ ghost use lib.ListN.{length};
 ghost use Rattle.basics.specs.Elimination.{next};
 ghost use Rattle.rules.specs.Sizes.{width};
 ghost use Rattle.rules.specs.State.{buffer-after};
-ghost use Rattle.judge.specs.Square.{is-in, said-before, begin-of, ordered};
-use crate::marks;
+ghost use Rattle.pairs.specs.Square.{is-in, said-before, begin-of, ordered};
+use pairs::marks;
 
 // The one to take next, with nobody left before him; the number of places if nobody can be taken.
 fn next_of(rows: [[bool; 32]; 32], begins: [u16; 32], left: [bool; 32], places: usize) -> usize

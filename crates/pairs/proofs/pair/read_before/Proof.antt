@@ -1,0 +1,81 @@
+-- `pairs::pair::read_before` meets its contract. The loop's invariant: no cell below c is written and first read before the commit. The measure is what is left of the cells.
+-- Assumes nothing.
+use Prim.Native.Nat.{_≤_, _-_}
+use mathlib.Core.Path.{_≡_}
+use mathlib.Core.Bool.{false, _&&_}
+use mathlib.Core.Logic.{⊎-elim}
+use native.Mathlib.Omega.{arith}
+use lib.ListN.{getD}
+use lib.Dec.{leb, ltb}
+use borrow.Author.Needs.{needs}
+use Rattle.basics.specs.Below.{anyBelow}
+use Rattle.basics.proofs.Bools.{and-both, and-fails-left, and-second}
+use Rattle.basics.proofs.Below.{any-none, any-skips}
+use Rattle.basics.proofs.Tested.{any-found, none-found}
+use Rattle.pairs.proofs.pair.read_before.Statement.{statement}
+use Rattle.pairs.proofs.pair.read_before.Tie as tie
+
+abbrev Inv-loop : tie.InvT-loop
+Inv-loop commit cells first written c₀ c = (c ≤ cells) × (anyBelow (λ i. getD written i false && (leb 1 (getD first i 0) && ltb (getD first i 0) commit)) c ≡ false)
+
+abbrev μ-loop : tie.MeasureT-loop
+μ-loop commit cells first written c₀ c = cells - c
+
+loop-holds : tie.Need-loop-holds Inv-loop μ-loop
+loop-holds c = (omega arith, any-none _)
+
+array-read-if1 : tie.Need-array-read-if1 Inv-loop μ-loop
+array-read-if1 c = search needs
+
+mul-if2 : tie.Need-mul-if2 Inv-loop μ-loop
+mul-if2 c = search needs
+
+array-read-if2 : tie.Need-array-read-if2 Inv-loop μ-loop
+array-read-if2 c = search needs
+
+mul-if3 : tie.Need-mul-if3 Inv-loop μ-loop
+mul-if3 c = search needs
+
+array-read-if3 : tie.Need-array-read-if3 Inv-loop μ-loop
+array-read-if3 c = search needs
+
+returns : tie.Need-returns Inv-loop μ-loop
+returns c =
+    any-found _ _ _ (c .before .before .before .loop-test .taken)
+    (and-both _ _ (c .before .before .if1 .taken) (and-both _ _ (c .before .if2 .taken) (c .if3 .taken)))
+
+add-c : tie.Need-add-c Inv-loop μ-loop
+add-c c = search needs
+
+loop-less : tie.Need-loop-less Inv-loop μ-loop
+loop-less c = search needs
+
+loop-again : tie.Need-loop-again Inv-loop μ-loop
+loop-again c = (
+  omega arith,
+  any-skips _ _ (c .before .before .loop .inv .1)
+      (⊎-elim (λ w. and-second (w .0 .taken) (and-second (w .1 .taken) (w .2 .left)))
+      (⊎-elim (λ w. and-second (w .0 .taken) (and-fails-left _ _ (w .1 .left))) (λ w. and-fails-left _ _ (w .left)))
+      (c .if1 .came)),
+)
+
+returns-2 : tie.Need-returns-2 Inv-loop μ-loop
+returns-2 c = none-found _ _ _ (c .before .loop .inv .0) (c .loop-test .left) (c .before .loop .inv .1)
+
+pub read-before-spec : {M : Type 1} → statement M
+read-before-spec =
+    tie.close
+    (tie.spec
+    Inv-loop
+    μ-loop
+    loop-holds
+    array-read-if1
+    mul-if2
+    array-read-if2
+    mul-if3
+    array-read-if3
+    returns
+    add-c
+    loop-less
+    loop-again
+    returns-2)
