@@ -1,7 +1,7 @@
 -- Tests: how a Boolean is taken apart and made, and the two cases of a place below one more. Assumes nothing.
 use mathlib.Core.Path.{_≡_, refl, sym, _∙_}
 use mathlib.Core.Logic.{_⊎_, inl, inr}
-use mathlib.Core.Bool.{Bool, true, false, _&&_, _||_, true≢false, false≢true}
+use mathlib.Core.Bool.{Bool, true, false, cond, _&&_, _||_, true≢false, false≢true}
 use Prim.Native.Nat.{ℕ, suc, _<_}
 use native.Mathlib.Decide.{decLt, ℕ-discrete}
 use native.Mathlib.Omega.{arith}
@@ -98,3 +98,10 @@ or-second p q = rw p q
 -- the first test passes, and the answer is its own
 pub or-first : (a b : Bool) {x : Bool} → a ≡ x → x ≡ true → a || b ≡ x
 or-first a b p q = or-left a b (p ∙ q) ∙ sym q
+
+-- a choice once its test is known
+pub cond-passes {ℓ} : {A : Type ℓ} {b : Bool} (x y : A) → b ≡ true → cond b x y ≡ x
+cond-passes x y e = rw e
+
+pub cond-fails {ℓ} : {A : Type ℓ} {b : Bool} (x y : A) → b ≡ false → cond b x y ≡ y
+cond-fails x y e = rw e

@@ -17,7 +17,8 @@ use Rattle.rules.specs.declared.Size.{Size}
 use Rattle.rules.specs.Sizes.{Within, width}
 use Rattle.rules.specs.Books.{Books, place-at}
 use Rattle.rules.specs.Judging.{company, stands-before, has-cycle, given-places, given-order}
-use Rattle.pairs.specs.Square.{is-in, said-before, square-of, begin-of}
+use Rattle.pairs.specs.Square.{is-in, said-before, square-of}
+use Rattle.judge.specs.Ordered.{begin-of}
 use Rattle.pairs.proofs.Squares.{present-says, square-says}
 
 module _ (z : Size) (within : Within z) (b : Books) (i : ℕ) (present : List Bool) (rows : List (List Bool))

@@ -6,7 +6,8 @@ ghost use lib.ListN.{length};
 ghost use Rattle.basics.specs.Elimination.{next};
 ghost use Rattle.rules.specs.Sizes.{width};
 ghost use Rattle.rules.specs.State.{buffer-after};
-ghost use Rattle.pairs.specs.Square.{is-in, said-before, begin-of, ordered};
+ghost use Rattle.pairs.specs.Square.{is-in, said-before};
+ghost use Rattle.judge.specs.Ordered.{begin-of, ordered};
 use pairs::marks;
 
 // The one to take next, with nobody left before him; the number of places if nobody can be taken.

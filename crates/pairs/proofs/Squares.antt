@@ -27,13 +27,6 @@ module _ (z : Size) (b : Books) (k m : ℕ) where
   unfolding stands-before
   stands-itself h = and-fails-left (not (eqb k m)) (precedes z (place-at b k) (place-at b m)) h
 
--- a choice once its test is known: a row for one that is present, an empty one for one that is not
-pub cond-passes {ℓ} : {A : Type ℓ} {b : Bool} (x y : A) → b ≡ true → cond b x y ≡ x
-cond-passes x y e = rw e
-
-pub cond-fails {ℓ} : {A : Type ℓ} {b : Bool} (x y : A) → b ≡ false → cond b x y ≡ y
-cond-fails x y e = rw e
-
 module _ (z : Size) (within : Within z) where
   -- an array filled in by a test says what the test says
   pub present-says : (present : List Bool) (f : ℕ → Bool) → present ≡ filledBelow f false (z .places) width → (k : ℕ) → k < z .places → is-in present k ≡ f k

@@ -4,7 +4,6 @@ use mathlib.Core.Bool.{Bool, false, cond, _&&_}
 use mathlib.Core.List.{List, []}
 use lib.ListN.{getD, replicate}
 use Rattle.basics.specs.Below.{filledBelow}
-use Rattle.basics.specs.Elimination.{eliminated}
 use Rattle.rules.specs.declared.Size.{Size}
 use Rattle.rules.specs.Sizes.{width}
 use Rattle.rules.specs.Books.{Books}
@@ -17,14 +16,6 @@ is-in present k = getD present k false
 -- by row and column: k stands before m
 abbrev pub said-before : List (List Bool) → ℕ → ℕ → Bool
 said-before rows k m = getD (getD rows m []) k false
-
--- the begin record of the one at that place
-abbrev pub begin-of : List ℕ → ℕ → ℕ
-begin-of begins k = getD begins k 0
-
--- those present in their order, as places: each time the lowest begin record among those with nobody left before them
-abbrev pub ordered : List (List Bool) → List ℕ → List Bool → ℕ → List ℕ
-ordered rows begins present places = eliminated places (said-before rows) (begin-of begins) (is-in present)
 
 -- who of those present stands before m
 unfoldable pub row-of : Size → Books → List Bool → ℕ → List Bool

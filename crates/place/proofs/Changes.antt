@@ -4,8 +4,7 @@ use mathlib.Core.Bool.{true}
 use Prim.Native.Nat.{ℕ}
 use lib.ListN.{set}
 use Rattle.rules.specs.declared.Place.{Place}
-use Rattle.rules.specs.Books.{begun, posted, next-turn}
-use Rattle.place.specs.Blank.{blank}
+use Rattle.rules.specs.Books.{begun, posted, next-turn, blank}
 
 module _ (p cleared : Place) (n : ℕ) (e : cleared ≡ blank (next-turn (p .turn))) where
   -- a cleared place with the next turn, made live at record n, is begun

@@ -1,3 +1,2 @@
--- A free place by its turn, and the rows of the gate's table.
-pub mod Blank
+-- The rows of the gate's table.
 pub mod Calls

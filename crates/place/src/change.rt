@@ -2,8 +2,7 @@
 ghost use mathlib.Core.Path.{_≡_};
 ghost use Prim.Native.Nat.{_<_};
 ghost use Rattle.rules.specs.Sizes.{width};
-ghost use Rattle.place.specs.Blank.{blank};
-ghost use Rattle.rules.specs.Books.{freed, begun, posted, marked, first-kept, read-marked, sealed};
+ghost use Rattle.rules.specs.Books.{blank, freed, begun, posted, marked, first-kept, read-marked, sealed};
 use crate::handle;
 use rules::Place;
 

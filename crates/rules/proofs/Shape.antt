@@ -9,8 +9,12 @@ use native.Mathlib.Omega.{arith}
 use Rattle.basics.proofs.Bools.{equal-or-not}
 use Rattle.basics.proofs.Elements.{getD-map-within}
 use Rattle.rules.specs.declared.Place.{Place}
-use Rattle.rules.specs.Sizes.{Size, width}
+use Rattle.rules.specs.Sizes.{Size, Within, yard, width}
 use Rattle.rules.specs.Books.{Books, Shaped, place-at, no-place, freed, begun, posted, marked, read-marked, sealed, with-place, with-record, opened, closed, of-places, lowest-free, live-count}
+
+-- document 01's controller fits the arrays
+pub yard-within : Within yard
+yard-within = record { places = omega arith; cells = omega arith }
 
 -- ---- one place
 

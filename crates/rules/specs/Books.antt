@@ -59,9 +59,13 @@ no-reads = replicate width 0
 abbrev pub next-turn : ℕ → ℕ
 next-turn t = (t + 1) % turns
 
+-- a free place with that turn: zero in all else
+abbrev pub blank : ℕ → Place
+blank turn = record { turn = turn; status = 0; begin = 0; commit = 0; written = no-cells; first = no-reads; last = no-reads }
+
 -- freed: zero in all but the turn
 unfoldable pub freed : Place → Place
-freed p = record { turn = p .turn; status = 0; begin = 0; commit = 0; written = no-cells; first = no-reads; last = no-reads }
+freed p = blank (p .turn)
 
 -- begun at record n: live, the turn one up
 unfoldable pub begun : Place → ℕ → Place

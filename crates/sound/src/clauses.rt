@@ -76,7 +76,7 @@ fn is_commit_sound(p: Place, records: u16) -> bool
 }
 
 // A place by its status: free, live or committed; any other status is unsound.
-pub fn is_place_sound(p: Place, records: u16, z: Size) -> bool
+fn is_place_sound(p: Place, records: u16, z: Size) -> bool
     requires { ⌜ Within z ⌝ }
     ensures { λ r. ⌜ r ≡ place-sound z records p ⌝ }
 {

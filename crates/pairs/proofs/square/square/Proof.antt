@@ -12,7 +12,7 @@ use Rattle.basics.proofs.Filled.{filled-none, filled-set, filled-passed, filled
 use Rattle.rules.specs.Sizes.{width}
 use Rattle.rules.specs.Books.{of-places}
 use Rattle.pairs.specs.Square.{is-in, row-of, square-of}
-use Rattle.pairs.proofs.Squares.{cond-passes, cond-fails}
+use Rattle.basics.proofs.Bools.{cond-passes, cond-fails}
 use Rattle.pairs.proofs.square.square.Statement.{statement}
 use Rattle.pairs.proofs.square.square.Tie as tie
 

@@ -1,7 +1,7 @@
 -- `place::change::begin` hands back the definition `begun` of the place. Assumes nothing.
 use mathlib.Core.Path.{_∙_, ap}
 use borrow.Author.Needs.{needs}
-use Rattle.place.specs.Blank.{blank}
+use Rattle.rules.specs.Books.{blank}
 use Rattle.place.proofs.Changes.{begun-from}
 use Rattle.place.proofs.change.begin.Statement.{statement}
 use Rattle.place.proofs.change.begin.Tie as tie

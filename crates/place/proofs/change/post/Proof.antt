@@ -1,7 +1,7 @@
 -- `place::change::post` hands back the definition `posted` of the place. Assumes nothing.
 use mathlib.Core.Path.{_∙_, ap}
 use borrow.Author.Needs.{needs}
-use Rattle.place.specs.Blank.{blank}
+use Rattle.rules.specs.Books.{blank}
 use Rattle.place.proofs.Changes.{posted-from}
 use Rattle.place.proofs.change.post.Statement.{statement}
 use Rattle.place.proofs.change.post.Tie as tie

@@ -1,16 +1,13 @@
 -- `machine::books::Books::is_sound` meets its contract: it asks for the yard's size. Rests on the contracts of `yard_size` and `are_sound`.
 use mathlib.Core.Path.{sym, _∙_, ap, subst}
-use native.Mathlib.Omega.{arith}
 use borrow.Author.Needs.{needs}
-use Rattle.rules.specs.Sizes.{Within, yard}
+use Rattle.rules.specs.Sizes.{Within}
 use Rattle.rules.specs.declared.Size.{Size}
 use Rattle.rules.specs.Sound.{sound}
+use Rattle.rules.proofs.Shape.{yard-within}
 use Rattle.machine.specs.View.{view}
 use Rattle.machine.proofs.books.Books.is_sound.Statement.{statement}
 use Rattle.machine.proofs.books.Books.is_sound.Tie as tie
-
-yard-within : Within yard
-yard-within = record { places = omega arith; cells = omega arith }
 
 yard-size-requires : tie.Need-yard-size-requires
 yard-size-requires c κs = search needs
