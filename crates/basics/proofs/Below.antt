@@ -8,7 +8,7 @@ use native.Mathlib.Decide.{decLe}
 use native.Mathlib.Numerals.{add-one}
 use native.Mathlib.Omega.{arith}
 use Rattle.basics.specs.Below.{allBelow, anyBelow, countBelow, greatestBelow, runBelow}
-use Rattle.basics.proofs.Bools.{split, clash, false-of-not, and-left, and-right, and-both, and-false, or-true, or-left, or-right, or-fails, below-more}
+use Rattle.basics.proofs.Bools.{split, clash, false-of-not, true-of-not, and-left, and-right, and-both, and-false, or-true, or-left, or-right, or-fails, below-more}
 
 -- two functions agree below a limit
 abbrev pub Agree {ℓ} : {A : Type ℓ} → ℕ → (ℕ → A) → (ℕ → A) → Type ℓ
@@ -117,6 +117,13 @@ module _ (p : ℕ → Bool) where
   count-nobody zero h = refl
   count-nobody (suc n) h = rw (h n (le-refl (suc n)), count-nobody n (λ i k. h i (omega arith)))
 
+  -- some passes exactly if the count is not 0
+  pub any-counted : (n : ℕ) → (countBelow p n ≡ 0 → ⊥) → anyBelow p n ≡ true
+  any-counted n counted = true-of-not (anyBelow p n) (λ e. counted (count-nobody n (any-false n e)))
+
+  pub none-counted : (n : ℕ) → countBelow p n ≡ 0 → anyBelow p n ≡ false
+  none-counted n e = any-fails n (count-zero n e)
+
 -- a test that passes where another does counts at least as much
 one-if-le : (a b : Bool) → (a ≡ true → b ≡ true) → cond a 1 0 ≤ cond b 1 0
 one-if-le false b h = omega arith
@@ -158,6 +165,16 @@ module _ (p q : ℕ → Bool) where
   unfolding countBelow
   count-cong zero h = refl
   count-cong (suc n) h = ap₂ (λ c b. c + cond b 1 0) (count-cong n (agree-below h)) (h n (le-refl (suc n)))
+
+  -- tests that agree but at one number give counts that differ as they do there
+  pub count-changed : (n i : ℕ) → i < n → ((j : ℕ) → j < n → (j ≡ i → ⊥) → p j ≡ q j)
+      → countBelow p n + cond (q i) 1 0 ≡ countBelow q n + cond (p i) 1 0
+  unfolding countBelow
+  count-changed zero i h same = absurd (not-suc-le-zero h)
+  count-changed (suc n) i h same =
+      below-more h
+      (λ k. let rest = count-changed n i k (λ j m. same j (omega arith)) in let here = same n (le-refl (suc n)) (λ e. omega arith) in rw here (omega arith))
+      (λ last. let rest = count-cong n (λ j m. same j (omega arith) (λ e. omega arith)) in rw (rest, last) (omega arith))
 
 module _ (f : ℕ → ℕ) where
   -- the greatest value is at least each, and reached

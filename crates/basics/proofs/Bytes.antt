@@ -113,6 +113,11 @@ part-first i n xs ys h =
 drop-from : (e i : ℕ) (ys : List ℕ) → e ≤ i → drop i ys ≡ drop (i - e) (drop e ys)
 drop-from e i ys h = let q : i ≡ e + (i - e) = omega arith in ap (λ (k : ℕ). drop k ys) q ∙ sym (drop-drop (i - e) e ys)
 
+-- a splice of nothing
+pub splice-nothing : (at : ℕ) (xs : List ℕ) → splice at [] xs ≡ xs
+unfolding splice
+splice-nothing at xs = let e : at + 0 ≡ at = omega arith in ap (λ (k : ℕ). take at xs ++ drop k xs) e ∙ take-append-drop at xs
+
 -- a splice
 module _ (at : ℕ) (new xs : List ℕ) where
   pub splice-length : at + length new ≤ length xs → length (splice at new xs) ≡ length xs

@@ -3,15 +3,16 @@ use Prim.Native.Nat.{ℕ, zero, suc, _+_, _<_, _≤_}
 use mathlib.Core.Path.{_≡_, refl, _∙_, ap, sym, subst}
 use mathlib.Core.Logic.{_≢_}
 use mathlib.Core.Bool.{cond}
-use mathlib.Core.List.{List, []}
+use mathlib.Core.List.{List, [], map}
 use native.Mathlib.Nat.{not-suc-le-zero, le-antisymm}
 use native.Mathlib.Omega.{arith}
 use lib.Dec.{ltb}
-use lib.ListN.{length, getD, set, replicate, length-append, length-set, length-replicate, getD-replicate, List·getD-append}
+use lib.ListN.{length, getD, set, replicate, length-append, length-map, length-set, length-replicate, getD-replicate, List·getD-append}
 use lib.Seq.{getD-at, ext-getD, getD-set-same, getD-set-other}
 use borrow.Author.Tests.{lt-ltb, le-ltb, ltb-true, ltb-false}
 use Rattle.basics.specs.Below.{filledBelow}
 use Rattle.basics.proofs.Below.{Agree}
+use Rattle.basics.proofs.Elements.{getD-map-within}
 use Rattle.basics.proofs.Bools.{split, below-more, equal-or-not}
 
 -- the test "below n + 1" away from n
@@ -101,3 +102,9 @@ module _ {ℓ} {A : Type ℓ} (f g : ℕ → A) (d : A) where
   filled-cong n w h =
       filled-is g d n w (filledBelow f d n w) (filled-length f d n w)
       (λ i k. filled-get f d n w i d k ∙ split (ltb i n) (λ t. rw t (h i (ltb-true i n t))) (λ t. rw t))
+
+-- an array filled from another one, element by element, is its image
+pub filled-map {ℓ κ} : {A : Type ℓ} {B : Type κ} (f : A → B) (xs : List A) (a : A) (d : B) (w : ℕ) → length xs ≡ w → filledBelow (λ i. f (getD xs i a)) d w w ≡ map f xs
+filled-map f xs a d w e =
+    sym (filled-is (λ i. f (getD xs i a)) d w w (map f xs) (length-map xs f ∙ e) λ i h.
+    getD-map-within f xs i a d (subst (λ (k : ℕ). i < k) (sym e) h) ∙ rw (lt-ltb i w h))

@@ -1,1 +1,5 @@
+pub mod Handed
+pub mod Issuing
+pub mod Results
 pub mod SoundAnswer
+pub mod Staying

@@ -1,2 +1,4 @@
+pub mod Called
+pub mod Promises
 pub mod Statements
 pub mod View

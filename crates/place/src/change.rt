@@ -7,7 +7,7 @@ use crate::handle;
 use rules::Place;
 
 // A free place: zero in all but the turn.
-fn cleared(turn: u16) -> Place
+pub fn cleared(turn: u16) -> Place
     ensures { λ r. ⌜ r ≡ blank turn ⌝ }
 {
     Place {

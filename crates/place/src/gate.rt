@@ -1,7 +1,8 @@
 // The gate: what a call on a handle meets, by the status of the place.
 ghost use mathlib.Core.Path.{_≡_};
+ghost use mathlib.Core.Bool.{false};
 ghost use Prim.Native.Nat.{_<_, _≤_};
-ghost use Rattle.rules.specs.Handles.{gate, looked-up};
+ghost use Rattle.rules.specs.Handles.{gate, looked-up, out-of-range};
 ghost use Rattle.place.specs.Calls.{caller};
 use crate::handle;
 use rules::Place;
@@ -31,7 +32,7 @@ pub fn passes(call: usize, status: u8) -> u8
 
 // What a call on a handle meets at the place p that the handle names: 3, 4, or 0 where it goes on.
 pub fn lookup(p: Place, z: Size, call: usize, handle: u32) -> u8
-    requires { ⌜ (call < 5) × (p .status ≤ 2) ⌝ }
+    requires { ⌜ (call < 5) × (out-of-range z handle ≡ false → p .status ≤ 2) ⌝ }
     ensures { λ r. ⌜ r ≡ looked-up z (caller call) p handle ⌝ }
 {
     if handle::is_out_of_range(handle, z) {

@@ -5,6 +5,7 @@ use mathlib.Core.Logic.{_≢_, ⊎-elim}
 use Prim.Native.Nat.{ℕ}
 use mathlib.Core.Bool.{Bool, true, false, not, cond, true≢false}
 use mathlib.Core.List.{List}
+use lib.ListN.{length}
 use lib.Dec.{eqb}
 use native.Mathlib.Omega.{arith}
 use borrow.Author.Tests.{eqb-false, not-true}
@@ -17,7 +18,7 @@ use Rattle.rules.specs.Judging.{has-cycle}
 use Rattle.rules.specs.Numbers.{granted, conflict, Reason, first-reason}
 use Rattle.rules.specs.Daylog.{read-conflict-kind, commit-conflict-kind}
 use Rattle.rules.specs.State.{State, Outcome, refused, unless-refused, recorded}
-use Rattle.rules.specs.Steps.{soundness-reason, handle-reasons, cell-reason, handle-cell-reasons, room-reason, begin-reasons, write-reasons, read-reasons, commit-reasons, give-up-reasons, post-reasons, order-reasons, close-reasons, read-books, commit-books, turned-back, weighed, own-read-of, granted-read-of, judged-read-of, granted-commit-of, judged-commit-of, open-rule, begin-rule, write-rule, read-rule, commit-rule, give-up-rule, post-rule, order-rule, close-rule}
+use Rattle.rules.specs.Steps.{soundness-reason, handle-reasons, cell-reason, handle-cell-reasons, room-reason, begin-reasons, write-reasons, read-reasons, commit-reasons, give-up-reasons, post-reasons, order-reasons, close-reasons, read-books, commit-books, turned-back, weighed, own-read-of, granted-read-of, judged-read-of, granted-commit-of, judged-commit-of, open-rule, begin-rule, write-rule, read-rule, commit-rule, give-up-rule, post-rule, order-rule, close-rule, read-of, begin-of, write-of, give-up-of, post-of, order-of, close-of}
 use Rattle.rules.specs.Calls.{Call, Open, Begin, Write, Read, Show, Commit, GiveUp, Post, Order, Close, Lending, issued}
 use Rattle.rules.specs.Statements.{TurnsBack, ReadConflict, CommitConflict, can-answer-nine, Conflicts}
 use Rattle.rules.proofs.Judging.{given-orders}
@@ -80,7 +81,11 @@ module _ (z : Size) (l : Lending) (s : State) (h : ℕ) where
   abbrev i : ℕ
   i = place-of h
 
-  commit-no-nine : NoNine (commit-reasons z (l .log) s h)
+  -- the reasons that are asked of the commit
+  abbrev commit-asked : List Reason
+  commit-asked = commit-reasons z (length (s .table)) (length (s .drafts)) (l .log) (s .books) h
+
+  commit-no-nine : NoNine commit-asked
   unfolding allIn commit-reasons soundness-reason handle-reasons
   commit-no-nine = refl
 
@@ -95,14 +100,18 @@ module _ (z : Size) (l : Lending) (s : State) (h : ℕ) where
       let told = given-orders z (commit-books z (s .books) i) i .cycle-told in
       record {
         exactly = (
-          λ e. let p = conflict-parts (commit-reasons z (l .log) s h) commit-no-nine s false commit-cycle on back on refl refl refl e in (p .0, told .0 (p .2)),
-          λ p. conflict-of (commit-reasons z (l .log) s h) commit-no-nine s false commit-cycle on back on refl refl refl (p .0) refl (told .1 (p .1)),
+          λ e. let p = conflict-parts commit-asked commit-no-nine s false commit-cycle on back on refl refl refl e in (p .0, told .0 (p .2)),
+          λ p. conflict-of commit-asked commit-no-nine s false commit-cycle on back on refl refl refl (p .0) refl (told .1 (p .1)),
         );
-        turns-back = λ e. turned-back-turns s commit-conflict-kind i 0 (issued z l (Commit h) s) (conflict-parts (commit-reasons z (l .log) s h) commit-no-nine s false commit-cycle on back on refl refl refl e .3);
+        turns-back = λ e. turned-back-turns s commit-conflict-kind i 0 (issued z l (Commit h) s) (conflict-parts commit-asked commit-no-nine s false commit-cycle on back on refl refl refl e .3);
       }
 
   module _ (c : ℕ) where
-    read-no-nine : NoNine (read-reasons z (l .log) s h c)
+    -- the reasons that are asked of the read
+    abbrev read-asked : List Reason
+    read-asked = read-reasons z (length (s .table)) (length (s .drafts)) (l .log) (s .books) h c
+
+    read-no-nine : NoNine read-asked
     unfolding allIn read-reasons handle-cell-reasons soundness-reason handle-reasons cell-reason room-reason
     read-no-nine = refl
 
@@ -110,7 +119,7 @@ module _ (z : Size) (l : Lending) (s : State) (h : ℕ) where
     read-cycle = has-cycle z (read-books z (s .books) i c) i
 
     read-conflict : ReadConflict z l s h c
-    unfolding issued read-rule judged-read-of weighed turned-back granted-read-of own-read-of recorded
+    unfolding issued read-rule read-of judged-read-of weighed turned-back granted-read-of own-read-of recorded
     read-conflict =
         let w = wrote (place-at (s .books) i) c in
         let own = own-read-of z s i c in
@@ -119,10 +128,10 @@ module _ (z : Size) (l : Lending) (s : State) (h : ℕ) where
         let told = given-orders z (read-books z (s .books) i c) i .cycle-told in
         record {
           exactly = (
-            λ e. let p = conflict-parts (read-reasons z (l .log) s h c) read-no-nine s w read-cycle own back on refl refl refl e in (p .0, p .1, told .0 (p .2)),
-            λ p. conflict-of (read-reasons z (l .log) s h c) read-no-nine s w read-cycle own back on refl refl refl (p .0) (p .1) (told .1 (p .2)),
+            λ e. let p = conflict-parts read-asked read-no-nine s w read-cycle own back on refl refl refl e in (p .0, p .1, told .0 (p .2)),
+            λ p. conflict-of read-asked read-no-nine s w read-cycle own back on refl refl refl (p .0) (p .1) (told .1 (p .2)),
           );
-          turns-back = λ e. turned-back-turns s read-conflict-kind i c (issued z l (Read h c) s) (conflict-parts (read-reasons z (l .log) s h c) read-no-nine s w read-cycle own back on refl refl refl e .3);
+          turns-back = λ e. turned-back-turns s read-conflict-kind i c (issued z l (Read h c) s) (conflict-parts read-asked read-no-nine s w read-cycle own back on refl refl refl e .3);
         }
 
 -- ---- the other calls
@@ -133,17 +142,17 @@ not-conflict reasons s o no-nine zero e =
     never (sym zero ∙ sym (ap (λ (x : Outcome). x .number) (conflict-granted reasons s o no-nine e .1)) ∙ e)
 
 no-other : (z : Size) (l : Lending) (s : State) (c : Call) → can-answer-nine c ≡ false → issued z l c s .number ≢ conflict
-unfolding issued open-rule begin-rule write-rule give-up-rule post-rule order-rule close-rule recorded allIn begin-reasons write-reasons give-up-reasons post-reasons order-reasons close-reasons handle-cell-reasons soundness-reason handle-reasons cell-reason room-reason
+unfolding issued open-rule begin-rule begin-of write-rule write-of give-up-rule give-up-of post-rule post-of order-rule order-of close-rule close-of recorded allIn begin-reasons write-reasons give-up-reasons post-reasons order-reasons close-reasons handle-cell-reasons soundness-reason handle-reasons cell-reason room-reason
 no-other z l s Open j = never
-no-other z l s Begin j = not-conflict (begin-reasons z (l .log) s) s _ refl refl
-no-other z l s (Write h c value) j = not-conflict (write-reasons z (l .log) s h c value) s _ refl refl
+no-other z l s Begin j = not-conflict (begin-reasons z (l .log) (s .books)) s _ refl refl
+no-other z l s (Write h c value) j = not-conflict (write-reasons z (length value) (length (s .drafts)) (l .log) (s .books) h c) s _ refl refl
 no-other z l s (Read h c) j = absurd (true≢false j)
 no-other z l s (Show given h c) j = absurd (true≢false j)
 no-other z l s (Commit h) j = absurd (true≢false j)
-no-other z l s (GiveUp h) j = not-conflict (give-up-reasons z (l .log) s h) s _ refl refl
-no-other z l s (Post c value) j = not-conflict (post-reasons z (l .log) s c value) s _ refl refl
-no-other z l s (Order h) j = not-conflict (order-reasons z (l .buffer) s h) s _ refl refl
-no-other z l s Close j = not-conflict (close-reasons z (l .log) s) s _ refl refl
+no-other z l s (GiveUp h) j = not-conflict (give-up-reasons z (l .log) (s .books) h) s _ refl refl
+no-other z l s (Post c value) j = not-conflict (post-reasons z (length value) (length (s .table)) (l .log) (s .books) c) s _ refl refl
+no-other z l s (Order h) j = not-conflict (order-reasons z (l .buffer) (s .books) h) s _ refl refl
+no-other z l s Close j = not-conflict (close-reasons z (l .log) (s .books)) s _ refl refl
 
 pub conflicts : Conflicts
 conflicts = record { at-read = read-conflict; at-commit = commit-conflict; at-no-other = no-other }

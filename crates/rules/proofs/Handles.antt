@@ -9,6 +9,7 @@ use lib.Dec.{eqb}
 use native.Mathlib.Omega.{arith}
 use borrow.Author.Tests.{le-leb}
 use Rattle.basics.proofs.Bools.{split}
+use Rattle.rules.specs.declared.Place.{Place}
 use Rattle.rules.specs.Sizes.{Size, turns, handles, handles-a-turn}
 use Rattle.rules.specs.Books.{Books, place-at, is-free, is-committed, next-turn}
 use Rattle.rules.specs.Numbers.{granted, stale, ended, _if_, first-reason}
@@ -119,7 +120,7 @@ gate-orders s = picks-neither (eqb s 0) (λ e. omega arith) (picks-neither (eqb 
 -- ---- the lookup
 
 -- range, turn and gate say what the reasons 3 and 4 say, by the three answers of the tests and the three statuses
-reasons-agree : (out agrees : Bool) (c : Caller) (s : ℕ) → c ≢ orders → s ≤ 2
+reasons-agree : (out agrees : Bool) (c : Caller) (s : ℕ) → c ≢ orders → (out ≡ false → s ≤ 2)
     → cond (out || not agrees) stale (gate c s) ≡ cond (out || (eqb s 0 || not agrees)) stale (cond (not out && (agrees && eqb s 2)) ended granted)
 unfolding gate
 reasons-agree true agrees c s other k = refl
@@ -127,10 +128,10 @@ reasons-agree false false c s other k = split (eqb s 0) (λ e. rw e) (λ e. rw e
 reasons-agree false true c zero other k = refl
 reasons-agree false true c (suc zero) other k = refl
 reasons-agree false true c (suc (suc zero)) other k = committed-ended c other
-reasons-agree false true c (suc (suc (suc s))) other k = absurd (omega arith)
+reasons-agree false true c (suc (suc (suc s))) other k = absurd (omega (arith, k refl))
 
 -- for order they say what the reason 3 says
-order-agrees : (out agrees : Bool) (s : ℕ) → s ≤ 2
+order-agrees : (out agrees : Bool) (s : ℕ) → (out ≡ false → s ≤ 2)
     → cond (out || not agrees) stale (gate orders s) ≡ cond (out || (eqb s 0 || not agrees)) stale granted
 unfolding gate gate-committed
 order-agrees true agrees s k = refl
@@ -138,9 +139,13 @@ order-agrees false false s k = split (eqb s 0) (λ e. rw e) (λ e. rw e)
 order-agrees false true zero k = refl
 order-agrees false true (suc zero) k = refl
 order-agrees false true (suc (suc zero)) k = refl
-order-agrees false true (suc (suc (suc s))) k = absurd (omega arith)
+order-agrees false true (suc (suc (suc s))) k = absurd (omega (arith, k refl))
 
-module _ (z : Size) (b : Books) (h : ℕ) (known : place-at b (place-of h) .status ≤ 2) where
+-- a handle in range names a place of a known status
+abbrev pub StatusKnown : Size → Place → ℕ → Type 0
+StatusKnown z p h = out-of-range z h ≡ false → p .status ≤ 2
+
+module _ (z : Size) (b : Books) (h : ℕ) (known : StatusKnown z (place-at b (place-of h)) h) where
   -- what a handle is looked up to is the first of its reasons 3 and 4, for every call but order
   pub looked-up-reasons : (c : Caller) → c ≢ orders → looked-up z c (place-at b (place-of h)) h ≡ first-reason (handle-reasons z b h)
   unfolding looked-up first-reason handle-reasons is-stale is-ended turn-agrees

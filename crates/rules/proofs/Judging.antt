@@ -2,13 +2,16 @@
 -- Rests on the laws of elimination in any relation. Assumes nothing.
 use mathlib.Core.Path.{_≡_, refl, sym}
 use mathlib.Core.Logic.{⊎-elim}
-use Prim.Native.Nat.{ℕ}
+use Prim.Native.Nat.{ℕ, _≤_}
 use mathlib.Core.Bool.{true, false≢true}
+use lib.ListN.{length, length-map}
 use lib.Dec.{eqb}
+use native.Mathlib.Omega.{arith}
 use borrow.Author.Tests.{eqb-true, not-true}
 use Rattle.basics.proofs.Bools.{split, clash, or-true, or-false-left, or-false-right}
+use Rattle.basics.proofs.Below.{count-at-most}
 use Rattle.basics.proofs.Walk.{first-step}
-use Rattle.basics.proofs.Eliminated.{eliminated-takes, eliminated-unique, eliminated-members, eliminated-distinct, eliminated-keeps, eliminated-exactly, eliminated-no-cycle, not-all-cycle, cycle-not-all}
+use Rattle.basics.proofs.Eliminated.{eliminated-takes, eliminated-unique, eliminated-members, eliminated-distinct, eliminated-length, eliminated-keeps, eliminated-exactly, eliminated-no-cycle, not-all-cycle, cycle-not-all}
 use Rattle.rules.specs.Sizes.{Size}
 use Rattle.rules.specs.Books.{Books, place-at, of-places, is-live, is-committed, is-held}
 use Rattle.rules.specs.Judging.{company, stands-before, HasCycle, has-cycle, given-places, given-order}
@@ -64,3 +67,11 @@ module _ (z : Size) (b : Books) (i : ℕ) where
   pub order-by-places : given-order z (of-places (b .places)) i ≡ given-order z b i
   unfolding given-order given-places stands-before company
   order-by-places = refl
+
+  -- an order has at most as many as there are places
+  pub order-length : length (given-order z b i) ≤ z .places
+  unfolding given-order given-places
+  order-length =
+      let most = eliminated-length (z .places) (stands-before z b) (λ k. place-at b k .begin) (company z b i) in
+      let all = count-at-most (company z b i) (z .places) in
+      simp length-map (omega arith)

@@ -6,6 +6,7 @@ use Prim.Native.Nat.{ℕ, _<_}
 use native.Mathlib.Omega.{arith}
 use mathlib.Core.Bool.{Bool, true, false, cond}
 use mathlib.Core.List.{List, [], _∷_}
+use lib.ListN.{length}
 use lib.Dec.{ltb, eqb}
 use borrow.Author.Tests.{ltb-true, eqb-true, eq-eqb}
 use Rattle.basics.specs.Lists.{allIn, anyIn}
@@ -16,7 +17,7 @@ use Rattle.rules.specs.Handles.{place-of}
 use Rattle.rules.specs.Judging.{has-cycle}
 use Rattle.rules.specs.Numbers.{granted, conflict, Reason, first-reason}
 use Rattle.rules.specs.State.{State, Outcome, refused, unless-refused, recorded}
-use Rattle.rules.specs.Steps.{show-reasons, order-reasons, turned-back, weighed, granted-read-of, judged-read-of, own-read-of, granted-commit-of, judged-commit-of, open-rule, begin-rule, write-rule, read-rule, show-rule, commit-rule, give-up-rule, post-rule, order-rule, close-rule}
+use Rattle.rules.specs.Steps.{show-reasons, order-reasons, turned-back, weighed, granted-read-of, judged-read-of, own-read-of, granted-commit-of, judged-commit-of, open-rule, begin-rule, write-rule, read-rule, show-rule, commit-rule, give-up-rule, post-rule, order-rule, close-rule, begin-of, write-of, read-of, show-of, give-up-of, post-of, order-of, close-of}
 use Rattle.rules.specs.Calls.{Call, Open, Begin, Write, Read, Show, Commit, GiveUp, Post, Order, Close, Lending, issued}
 use Rattle.rules.specs.Run.{Machine, moved-on, after-call}
 use Rattle.rules.specs.Statements.{Looks, ChangesNothing, RefusalsChangeNothing, ResultsUnique}
@@ -116,7 +117,7 @@ unfolding judged-commit-of turned-back granted-commit-of recorded
 settled-commit z s i = settled-weighed z _ i _ _ (inr refl) (inl refl)
 
 refusal-unchanged : (z : Size) (l : Lending) (c : Call) (s : State) → Unchanged s (issued z l c s)
-unfolding issued open-rule begin-rule write-rule read-rule show-rule commit-rule give-up-rule post-rule order-rule close-rule recorded own-read-of
+unfolding issued open-rule begin-rule begin-of write-rule write-of read-rule read-of show-rule show-of commit-rule give-up-rule give-up-of post-rule post-of order-rule order-of close-rule close-of recorded own-read-of
 refusal-unchanged z l Open s = λ n k. absurd (n refl)
 refusal-unchanged z l Begin s = unchanged _ _ _ (inl refl)
 refusal-unchanged z l (Write h c value) s = unchanged _ _ _ (inl refl)
@@ -132,13 +133,13 @@ refusal-unchanged z l Close s = unchanged _ _ _ (inl refl)
 
 -- a show that shows nothing changes nothing, and order and show only look
 show-refused : (z : Size) (l : Lending) (given h c : ℕ) (s : State) → issued z l (Show given h c) s .number ≢ granted → ChangesNothing s (issued z l (Show given h c) s)
-unfolding issued show-rule
-show-refused z l given h c s n = other-number (show-reasons z s given h c) s _ n
+unfolding issued show-rule show-of
+show-refused z l given h c s n = other-number (show-reasons z (length (s .table)) (length (s .drafts)) (s .books) given h c) s _ n
 
 looks : (z : Size) (l : Lending) (given h c : ℕ) (s : State) → Looks s (issued z l (Order h) s) × Looks s (issued z l (Show given h c) s)
-unfolding issued order-rule show-rule
+unfolding issued order-rule order-of show-rule show-of
 looks z l given h c s =
-    (looks-either-way (order-reasons z (l .buffer) s h) s _ (refl, refl), looks-either-way (show-reasons z s given h c) s _ (refl, refl))
+    (looks-either-way (order-reasons z (l .buffer) (s .books) h) s _ (refl, refl), looks-either-way (show-reasons z (length (s .table)) (length (s .drafts)) (s .books) given h c) s _ (refl, refl))
 
 -- the machine after a call that changes nothing is the machine
 machine-stays : (m : Machine) (o : Outcome) → ChangesNothing (m .state) o → after-call m o ≡ m

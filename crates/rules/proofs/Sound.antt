@@ -16,7 +16,7 @@ use Rattle.basics.proofs.Says.{eqb-says, leb-says, not-says, not-says-not, and-
 -- ---- one place
 
 -- a held place is live or committed, so its status is not 0
-held-says : (p : Place) → (is-held p ≡ true) ↔ ((p .status ≡ 1) ⊎ (p .status ≡ 2))
+pub held-says : (p : Place) → (is-held p ≡ true) ↔ ((p .status ≡ 1) ⊎ (p .status ≡ 2))
 held-says p = or-says (eqb-says (p .status) 1) (eqb-says (p .status) 2)
 
 pub held-status : (p : Place) → is-held p ≡ true → 1 ≤ p .status
@@ -26,10 +26,10 @@ held-status p e = ⊎-elim (λ (l : p .status ≡ 1). omega arith) (λ (c : p .s
 abbrev pub Clear : Size → Place → Type 0
 Clear z p = (p .begin ≡ 0) × ((p .commit ≡ 0) × ((c : ℕ) → c < z .cells → (wrote p c ≡ false) × ((first-read p c ≡ 0) × (last-read p c ≡ 0))))
 
-abbrev ReadsSound : ℕ → Place → ℕ → Type 0
+abbrev pub ReadsSound : ℕ → Place → ℕ → Type 0
 ReadsSound records p c = ((first-read p c ≡ 0) × (last-read p c ≡ 0)) ⊎ ((p .begin ≤ first-read p c) × ((first-read p c ≤ last-read p c) × (last-read p c ≤ records)))
 
-abbrev HeldSound : Size → ℕ → Place → Type 0
+abbrev pub HeldSound : Size → ℕ → Place → Type 0
 HeldSound z records p = (1 ≤ p .begin) × ((p .begin ≤ records) × ((c : ℕ) → c < z .cells → ReadsSound records p c))
 
 -- the reads of a cell, as the clauses have them
@@ -88,7 +88,7 @@ module _ (z : Size) (records : ℕ) (p : Place) where
       }
 
   -- a held place is sound if it is so as a held one, and its commit record is as its status asks
-  held-place : 1 ≤ p .status → p .status ≤ 2 → HeldSound z records p → p .commit ≤ records → (p .status ≡ 1 → p .commit ≡ 0) → (p .status ≡ 2 → p .begin ≤ p .commit) → SoundPlace z records p
+  pub held-place : 1 ≤ p .status → p .status ≤ 2 → HeldSound z records p → p .commit ≤ records → (p .status ≡ 1 → p .commit ≡ 0) → (p .status ≡ 2 → p .begin ≤ p .commit) → SoundPlace z records p
   held-place held known s counted live committed =
       record {
         status-known = known;
@@ -105,7 +105,7 @@ module _ (z : Size) (records : ℕ) (p : Place) where
       }
 
   -- and so it is as a held one, if it is sound
-  held-of-place : is-held p ≡ true → SoundPlace z records p → HeldSound z records p
+  pub held-of-place : is-held p ≡ true → SoundPlace z records p → HeldSound z records p
   held-of-place e s = (s .held-begun e, (s .begin-counted, λ c h. reads-sound-of c (s .last-counted c h) (s .reads-ordered c h)))
 
   -- a place of each status

@@ -4,15 +4,21 @@ use Rattle.rules.specs.Daylog.{standing, day-of}
 use Rattle.rules.specs.Trials.{Trials}
 use Rattle.rules.specs.CaseA.{CaseALog}
 use Rattle.rules.specs.Statements.{SoundnessSays, LayoutSays, LogReadsBack, ResultsUnique, RefusalsChangeNothing, Conflicts, GivenOrders}
+use Rattle.rules.specs.Kept.{ReasonsAsked, SoundnessKept, ShownIsRecorded, LogJoinsDay, Unlent}
+use Rattle.rules.proofs.Asked
 use Rattle.rules.proofs.CaseA
 use Rattle.rules.proofs.Conflict
 use Rattle.rules.proofs.Daylog
 use Rattle.rules.proofs.Encoding
+use Rattle.rules.proofs.Joined
 use Rattle.rules.proofs.Judging
 use Rattle.rules.proofs.LaidOut
 use Rattle.rules.proofs.Reasons
+use Rattle.rules.proofs.Shown
 use Rattle.rules.proofs.Sound
+use Rattle.rules.proofs.SoundAfter
 use Rattle.rules.proofs.Trials
+use Rattle.rules.proofs.Unlent
 
 -- the nine trials marked ●, and case A from its log alone
 pub trials : Trials
@@ -52,3 +58,20 @@ conflicts = Conflict.conflicts
 -- the given order
 pub given-orders : GivenOrders
 given-orders = Judging.given-orders
+
+-- what is known when no reason applies, and what every call keeps
+pub reasons-asked : ReasonsAsked
+reasons-asked = Asked.reasons-asked
+
+pub soundness-kept : SoundnessKept
+soundness-kept = SoundAfter.soundness-kept
+
+pub shown-is-recorded : ShownIsRecorded
+shown-is-recorded = Shown.shown-is-recorded
+
+pub log-joins-day : LogJoinsDay
+log-joins-day = Joined.log-joins-day
+
+-- what a call is not lent stays, and is of no concern to its rule
+pub unlent : Unlent
+unlent = Unlent.unlent

@@ -1,5 +1,5 @@
 -- What a step rule works on and what it answers.
-use Prim.Native.Nat.{ℕ, _*_}
+use Prim.Native.Nat.{ℕ, _+_, _*_}
 use mathlib.Core.Bool.{cond}
 use mathlib.Core.List.{List, []}
 use lib.Dec.{eqb}
@@ -16,6 +16,10 @@ pub record State : Type 0 where
   pub books : Books
   pub table : List ℕ
   pub drafts : List ℕ
+
+-- the state of a call by its books and what it is lent; a buffer that it is not lent stands as []
+abbrev pub state-of : Books → List ℕ → List ℕ → State
+state-of b table drafts = record { books = b; table = table; drafts = drafts }
 
 -- what a call means for the day: nothing; one record more; its end, with a trailer for so many records and commits; freshly opened books
 pub data Entry : Type 0 where
@@ -45,11 +49,17 @@ pub data Shown : Type 0 where
   in-drafts : ℕ → Shown
   in-table : ℕ → Shown
 
--- the bytes that are shown
-unfoldable pub shown-bytes : State → Shown → List ℕ
-shown-bytes s empty = []
-shown-bytes s (in-drafts at) = part at cell-bytes (s .drafts)
-shown-bytes s (in-table at) = part at cell-bytes (s .table)
+-- the bytes that are shown, of the lent drafts and table
+unfoldable pub shown-bytes : List ℕ → List ℕ → Shown → List ℕ
+shown-bytes drafts table empty = []
+shown-bytes drafts table (in-drafts at) = part at cell-bytes drafts
+shown-bytes drafts table (in-table at) = part at cell-bytes table
+
+-- where the shown part begins in memory (a block and an offset in it), by where the lent drafts and table begin; an empty part is at the table's front
+unfoldable pub shown-at : (ℕ × ℕ) → (ℕ × ℕ) → Shown → ℕ × ℕ
+shown-at drafts table empty = table
+shown-at drafts table (in-drafts at) = (drafts .0, at + drafts .1)
+shown-at drafts table (in-table at) = (table .0, at + table .1)
 
 -- where a place's draft of a cell, or a cell of the table, is shown
 abbrev pub shown-draft : Size → ℕ → ℕ → Shown

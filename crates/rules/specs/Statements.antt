@@ -79,12 +79,12 @@ pub record TurnsBack (s : State) (kind i c : ℕ) (o : Outcome) : Type 0 where
 
 -- a read meets Conflict exactly if it meets none of 1 to 7, its cell is not written, and with itself counted as granted the pairs contain a cycle
 pub record ReadConflict (z : Size) (l : Lending) (s : State) (h c : ℕ) : Type 0 where
-  pub exactly : (issued z l (Read h c) s .number ≡ conflict) ↔ ((first-reason (read-reasons z (l .log) s h c) ≡ granted) × (wrote (place-at (s .books) (place-of h)) c ≡ false) × HasCycle z (read-books z (s .books) (place-of h) c) (place-of h))
+  pub exactly : (issued z l (Read h c) s .number ≡ conflict) ↔ ((first-reason (read-reasons z (length (s .table)) (length (s .drafts)) (l .log) (s .books) h c) ≡ granted) × (wrote (place-at (s .books) (place-of h)) c ≡ false) × HasCycle z (read-books z (s .books) (place-of h) c) (place-of h))
   pub turns-back : issued z l (Read h c) s .number ≡ conflict → TurnsBack s read-conflict-kind (place-of h) c (issued z l (Read h c) s)
 
 -- a commit meets Conflict exactly if it meets none of 1 to 4 and, with itself counted as granted, the pairs contain a cycle
 pub record CommitConflict (z : Size) (l : Lending) (s : State) (h : ℕ) : Type 0 where
-  pub exactly : (issued z l (Commit h) s .number ≡ conflict) ↔ ((first-reason (commit-reasons z (l .log) s h) ≡ granted) × HasCycle z (commit-books z (s .books) (place-of h)) (place-of h))
+  pub exactly : (issued z l (Commit h) s .number ≡ conflict) ↔ ((first-reason (commit-reasons z (length (s .table)) (length (s .drafts)) (l .log) (s .books) h) ≡ granted) × HasCycle z (commit-books z (s .books) (place-of h)) (place-of h))
   pub turns-back : issued z l (Commit h) s .number ≡ conflict → TurnsBack s commit-conflict-kind (place-of h) 0 (issued z l (Commit h) s)
 
 -- the calls that can answer 9: read and commit, which are judged, and show, which hands on the number that it is given

@@ -1,5 +1,5 @@
 -- Document 01, "Step rules" and "Numbers given back": each call's reasons in the order of their numbers, and what it does if none applies.
--- `log` and `buffer` are the lengths of the lent log and order buffer.
+-- Reasons look at the books and at lengths alone: `value`, `table`, `drafts`, `log` and `buffer` among their arguments are lengths of what is lent.
 use Prim.Native.Nat.{ℕ, _+_}
 use mathlib.Core.Bool.{not, cond, _||_}
 use mathlib.Core.List.{List, [], _∷_, _++_}
@@ -72,46 +72,50 @@ open-rule s = record { number = granted; answer = 0; order = []; shown = empty; 
 module _ (z : Size) where
   -- ---- Begin takes the lowest free place and answers the handle.
 
-  unfoldable pub begin-reasons : ℕ → State → List Reason
-  begin-reasons log s =
+  unfoldable pub begin-reasons : ℕ → Books → List Reason
+  begin-reasons log b =
       (lent if wrong log log-bytes)
-      ∷ soundness-reason z (s .books)
-      ∷ (full if no-free z (s .books))
-      ∷ room-reason z (s .books) 2
+      ∷ soundness-reason z b
+      ∷ (full if no-free z b)
+      ∷ room-reason z b 2
       ∷ []
 
-  unfoldable pub begin-rule : ℕ → State → Outcome
-  begin-rule log s =
+  unfoldable pub begin-of : State → Outcome
+  begin-of s =
       let b = s .books in
       let i = lowest-free z b in
       let p = begun (place-at b i) (number-of b) in
-      unless-refused (begin-reasons log s) s
-      (recorded granted (handle-of i (p .turn)) (with-books s (with-place b i p)) (record-at begin-kind i p 0 no-value))
+      recorded granted (handle-of i (p .turn)) (with-books s (with-place b i p)) (record-at begin-kind i p 0 no-value)
+
+  unfoldable pub begin-rule : ℕ → State → Outcome
+  begin-rule log s = unless-refused (begin-reasons log (s .books)) s (begin-of s)
 
   -- ---- Write puts 8 bytes in the place's draft of that cell and marks the cell written. It is not judged.
 
-  unfoldable pub write-reasons : ℕ → State → ℕ → ℕ → List ℕ → List Reason
-  write-reasons log s h c value =
-      (lent if (wrong (length value) cell-bytes || (wrong (length (s .drafts)) (drafts-bytes z) || wrong log log-bytes)))
-      ∷ (handle-cell-reasons z (s .books) h c ++ (room-reason z (s .books) 1 ∷ []))
+  unfoldable pub write-reasons : ℕ → ℕ → ℕ → Books → ℕ → ℕ → List Reason
+  write-reasons value drafts log b h c =
+      (lent if (wrong value cell-bytes || (wrong drafts (drafts-bytes z) || wrong log log-bytes)))
+      ∷ (handle-cell-reasons z b h c ++ (room-reason z b 1 ∷ []))
+
+  unfoldable pub write-of : State → ℕ → ℕ → List ℕ → Outcome
+  write-of s i c value =
+      let b = s .books in
+      let p = place-at b i in
+      recorded granted 0
+      (record { books = with-place b i (marked p c); table = s .table; drafts = with-draft z i c value (s .drafts) })
+      (record-at write-kind i p c value)
 
   unfoldable pub write-rule : ℕ → State → ℕ → ℕ → List ℕ → Outcome
   write-rule log s h c value =
-      let b = s .books in
-      let i = place-of h in
-      let p = place-at b i in
-      unless-refused (write-reasons log s h c value) s
-      (recorded granted 0
-      (record { books = with-place b i (marked p c); table = s .table; drafts = with-draft z i c value (s .drafts) })
-      (record-at write-kind i p c value))
+      unless-refused (write-reasons (length value) (length (s .drafts)) log (s .books) h c) s (write-of s (place-of h) c value)
 
   -- ---- Read of a cell the transaction has written shows its draft and is not judged. Any other read shows the table's 8 bytes and is judged.
 
   -- 7 is counted as if granted
-  unfoldable pub read-reasons : ℕ → State → ℕ → ℕ → List Reason
-  read-reasons log s h c =
-      (lent if (wrong (length (s .table)) (table-bytes z) || (wrong (length (s .drafts)) (drafts-bytes z) || wrong log log-bytes)))
-      ∷ (handle-cell-reasons z (s .books) h c ++ (room-reason z (s .books) 1 ∷ []))
+  unfoldable pub read-reasons : ℕ → ℕ → ℕ → Books → ℕ → ℕ → List Reason
+  read-reasons table drafts log b h c =
+      (lent if (wrong table (table-bytes z) || (wrong drafts (drafts-bytes z) || wrong log log-bytes)))
+      ∷ (handle-cell-reasons z b h c ++ (room-reason z b 1 ∷ []))
 
   -- a read of a written cell: its draft is recorded
   unfoldable pub own-read-of : State → ℕ → ℕ → Outcome
@@ -131,23 +135,22 @@ module _ (z : Size) where
   unfoldable pub judged-read-of : State → ℕ → ℕ → Outcome
   judged-read-of s i c = weighed z (read-books (s .books) i c) i (turned-back s read-conflict-kind i c) (granted-read-of s i c)
 
+  unfoldable pub read-of : State → ℕ → ℕ → Outcome
+  read-of s i c = cond (wrote (place-at (s .books) i) c) (own-read-of s i c) (judged-read-of s i c)
+
   unfoldable pub read-rule : ℕ → State → ℕ → ℕ → Outcome
   read-rule log s h c =
-      let i = place-of h in
-      unless-refused (read-reasons log s h c) s
-      (cond (wrote (place-at (s .books) i) c) (own-read-of s i c) (judged-read-of s i c))
+      unless-refused (read-reasons (length (s .table)) (length (s .drafts)) log (s .books) h c) s (read-of s (place-of h) c)
 
   -- Showing takes the new books and the read's number. It shows an empty part unless that is 0 and a read would meet none of 1 to 5.
-  unfoldable pub show-reasons : State → ℕ → ℕ → ℕ → List Reason
-  show-reasons s given h c =
+  unfoldable pub show-reasons : ℕ → ℕ → Books → ℕ → ℕ → ℕ → List Reason
+  show-reasons table drafts b given h c =
       (given if not (eqb given 0))
-      ∷ (lent if (wrong (length (s .table)) (table-bytes z) || wrong (length (s .drafts)) (drafts-bytes z)))
-      ∷ handle-cell-reasons z (s .books) h c
+      ∷ (lent if (wrong table (table-bytes z) || wrong drafts (drafts-bytes z)))
+      ∷ handle-cell-reasons z b h c
 
-  unfoldable pub show-rule : State → ℕ → ℕ → ℕ → Outcome
-  show-rule s given h c =
-      let i = place-of h in
-      unless-refused (show-reasons s given h c) s
+  unfoldable pub show-of : State → ℕ → ℕ → Outcome
+  show-of s i c =
       record {
         number = granted;
         answer = 0;
@@ -157,13 +160,17 @@ module _ (z : Size) where
         entry = nothing;
       }
 
+  unfoldable pub show-rule : State → ℕ → ℕ → ℕ → Outcome
+  show-rule s given h c =
+      unless-refused (show-reasons (length (s .table)) (length (s .drafts)) (s .books) given h c) s (show-of s (place-of h) c)
+
   -- ---- Commit is judged as if granted. Granted, the written cells' drafts go into the table and the place becomes committed.
 
-  unfoldable pub commit-reasons : ℕ → State → ℕ → List Reason
-  commit-reasons log s h =
-      (lent if (wrong (length (s .table)) (table-bytes z) || (wrong (length (s .drafts)) (drafts-bytes z) || wrong log log-bytes)))
-      ∷ soundness-reason z (s .books)
-      ∷ handle-reasons z (s .books) h
+  unfoldable pub commit-reasons : ℕ → ℕ → ℕ → Books → ℕ → List Reason
+  commit-reasons table drafts log b h =
+      (lent if (wrong table (table-bytes z) || (wrong drafts (drafts-bytes z) || wrong log log-bytes)))
+      ∷ soundness-reason z b
+      ∷ handle-reasons z b h
 
   -- the books as they would be if a commit were granted
   unfoldable pub commit-books : Books → ℕ → Books
@@ -185,72 +192,78 @@ module _ (z : Size) where
   judged-commit-of s i = weighed z (commit-books (s .books) i) i (turned-back s commit-conflict-kind i 0) (granted-commit-of s i)
 
   unfoldable pub commit-rule : ℕ → State → ℕ → Outcome
-  commit-rule log s h = unless-refused (commit-reasons log s h) s (judged-commit-of s (place-of h))
+  commit-rule log s h =
+      unless-refused (commit-reasons (length (s .table)) (length (s .drafts)) log (s .books) h) s (judged-commit-of s (place-of h))
 
   -- ---- Give up frees the place.
 
-  unfoldable pub give-up-reasons : ℕ → State → ℕ → List Reason
-  give-up-reasons log s h = (lent if wrong log log-bytes) ∷ soundness-reason z (s .books) ∷ handle-reasons z (s .books) h
+  unfoldable pub give-up-reasons : ℕ → Books → ℕ → List Reason
+  give-up-reasons log b h = (lent if wrong log log-bytes) ∷ soundness-reason z b ∷ handle-reasons z b h
+
+  unfoldable pub give-up-of : State → ℕ → Outcome
+  give-up-of s i =
+      let b = s .books in
+      let p = place-at b i in
+      recorded granted 0 (with-books s (with-place b i (freed p))) (record-at give-up-kind i p 0 no-value)
 
   unfoldable pub give-up-rule : ℕ → State → ℕ → Outcome
-  give-up-rule log s h =
-      let b = s .books in
-      let i = place-of h in
-      let p = place-at b i in
-      unless-refused (give-up-reasons log s h) s
-      (recorded granted 0 (with-books s (with-place b i (freed p))) (record-at give-up-kind i p 0 no-value))
+  give-up-rule log s h = unless-refused (give-up-reasons log (s .books) h) s (give-up-of s (place-of h))
 
   -- ---- Post is begin, write and commit in one record. It writes the table, leaves the drafts, answers the handle, and is never judged.
 
-  unfoldable pub post-reasons : ℕ → State → ℕ → List ℕ → List Reason
-  post-reasons log s c value =
-      (lent if (wrong (length value) cell-bytes || (wrong (length (s .table)) (table-bytes z) || wrong log log-bytes)))
-      ∷ soundness-reason z (s .books)
+  unfoldable pub post-reasons : ℕ → ℕ → ℕ → Books → ℕ → List Reason
+  post-reasons value table log b c =
+      (lent if (wrong value cell-bytes || (wrong table (table-bytes z) || wrong log log-bytes)))
+      ∷ soundness-reason z b
       ∷ cell-reason z c
-      ∷ (full if no-free z (s .books))
-      ∷ room-reason z (s .books) 1
+      ∷ (full if no-free z b)
+      ∷ room-reason z b 1
       ∷ []
 
-  unfoldable pub post-rule : ℕ → State → ℕ → List ℕ → Outcome
-  post-rule log s c value =
+  unfoldable pub post-of : State → ℕ → List ℕ → Outcome
+  post-of s c value =
       let b = s .books in
       let i = lowest-free z b in
       let p = posted (place-at b i) c (number-of b) in
-      unless-refused (post-reasons log s c value) s
-      (recorded granted (handle-of i (p .turn))
+      recorded granted (handle-of i (p .turn))
       (record { books = with-place b i p; table = with-cell c value (s .table); drafts = s .drafts })
-      (record-at post-kind i p c value))
+      (record-at post-kind i p c value)
+
+  unfoldable pub post-rule : ℕ → State → ℕ → List ℕ → Outcome
+  post-rule log s c value =
+      unless-refused (post-reasons (length value) (length (s .table)) log (s .books) c) s (post-of s c value)
 
   -- ---- Order answers a count n and puts the transaction's order into the first n numbers of the order buffer. It adds no record.
 
   -- the second reason for 2 comes after 3
-  unfoldable pub order-reasons : ℕ → State → ℕ → List Reason
-  order-reasons buffer s h =
+  unfoldable pub order-reasons : ℕ → Books → ℕ → List Reason
+  order-reasons buffer b h =
       (lent if wrong buffer (order-numbers z))
-      ∷ soundness-reason z (s .books)
-      ∷ (stale if is-stale z (s .books) h)
-      ∷ (unsound if has-cycle z (s .books) (place-of h))
+      ∷ soundness-reason z b
+      ∷ (stale if is-stale z b h)
+      ∷ (unsound if has-cycle z b (place-of h))
       ∷ []
 
-  unfoldable pub order-rule : ℕ → State → ℕ → Outcome
-  order-rule buffer s h =
-      let order = given-order z (s .books) (place-of h) in
-      unless-refused (order-reasons buffer s h) s
+  unfoldable pub order-of : State → ℕ → Outcome
+  order-of s i =
+      let order = given-order z (s .books) i in
       record { number = granted; answer = length order; order = order; shown = empty; after = s; entry = nothing }
+
+  unfoldable pub order-rule : ℕ → State → ℕ → Outcome
+  order-rule buffer s h = unless-refused (order-reasons buffer (s .books) h) s (order-of s (place-of h))
 
   -- ---- Close writes the trailer just after the last record, frees every place, keeps turns, sets records to 0.
 
-  unfoldable pub close-reasons : ℕ → State → List Reason
-  close-reasons log s =
+  unfoldable pub close-reasons : ℕ → Books → List Reason
+  close-reasons log b =
       (lent if wrong log log-bytes)
-      ∷ soundness-reason z (s .books)
-      ∷ (busy if anyBelow (λ i. is-live (place-at (s .books) i)) (z .places))
+      ∷ soundness-reason z b
+      ∷ (busy if anyBelow (λ i. is-live (place-at b i)) (z .places))
       ∷ []
 
   -- `total` is the number of commits and posts among the records of the lent log
-  unfoldable pub close-rule : ℕ → ℕ → State → Outcome
-  close-rule log total s =
-      unless-refused (close-reasons log s) s
+  unfoldable pub close-of : ℕ → State → Outcome
+  close-of total s =
       record {
         number = granted;
         answer = 0;
@@ -259,3 +272,6 @@ module _ (z : Size) where
         after = with-books s (closed (s .books));
         entry = closes (s .books .records) total;
       }
+
+  unfoldable pub close-rule : ℕ → ℕ → State → Outcome
+  close-rule log total s = unless-refused (close-reasons log (s .books)) s (close-of total s)

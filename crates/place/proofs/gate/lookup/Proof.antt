@@ -22,7 +22,10 @@ returns-2 : tie.Need-returns-2
 returns-2 c = let a = c .before .before .before .before .before .args in other-turn-looked-up (a .z) (a .handle) (caller (a .call)) (a .p) (sym (c .before .before .before .before .is-out-of-range .ensures) ∙ c .before .before .before .if1 .left) (λ e. c .if2 .taken (e ∙ sym (c .before .turn-of .ensures)))
 
 passes-requires : tie.Need-passes-requires
-passes-requires c κs = search needs
+passes-requires c κs =
+    let k = c .before .before .before .before .before .pre in
+    let a = c .before .before .before .before in
+    (k .0, k .1 (sym (a .is-out-of-range .ensures) ∙ c .before .before .before .if1 .left))
 
 returns-3 : tie.Need-returns-3
 returns-3 c = let a = c .before .before .before .before .before .before .args in c .passes .ensures ∙ gate-looked-up (a .z) (a .handle) (caller (a .call)) (a .p) (sym (c .before .before .before .before .before .is-out-of-range .ensures) ∙ c .before .before .before .before .if1 .left) (c .before .if2 .left ∙ c .before .before .turn-of .ensures)

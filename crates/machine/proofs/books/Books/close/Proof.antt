@@ -1,0 +1,34 @@
+-- `machine::books::Books::close` is close's rule on the books, at the size of document 01's controller. Rests on the step.
+use denote.Ref.{now}
+use lib.ListN.{length}
+use mathlib.Core.List.{[]}
+use Rattle.rules.specs.Daylog.{commit-total, day-of}
+use Rattle.rules.specs.State.{state-of}
+use Rattle.rules.specs.Steps.{close-rule}
+use Rattle.machine.specs.View.{view}
+use Rattle.machine.specs.Promises.{LogIs}
+use Rattle.machine.proofs.Handed.{size-within, handed-back}
+use borrow.Author.Needs.{needs}
+use Rattle.machine.proofs.books.Books.close.Statement.{statement}
+use Rattle.machine.proofs.books.Books.close.Tie as tie
+
+yard-size-requires : tie.Need-yard-size-requires
+yard-size-requires c κs = search needs
+
+close-requires : tie.Need-close-requires
+close-requires c κs = size-within (c .before .yard-size .ensures)
+
+handed-requires : tie.Need-handed-requires
+handed-requires c κs = search needs
+
+same-length : tie.Need-same-length
+same-length c = search needs
+
+returns : tie.Need-returns
+returns c =
+    let a = c .before .before .before .before .before .before .before .before .args in
+    handed-back (LogIs (a .self .records) (now (a .log)) _) (λ z. close-rule z (length (now (a .log))) (commit-total (day-of (now (a .log)) (a .self .records))) (state-of (view (a .self)) [] [])) (c .before .before .before .before .before .yard-size .ensures) (c .handed .ensures) (c .before .before .before .close .ensures)
+
+pub close-spec : {M : Type 1} → statement M
+close-spec =
+    tie.close (tie.spec yard-size-requires close-requires handed-requires same-length returns)

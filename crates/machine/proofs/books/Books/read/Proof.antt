@@ -1,0 +1,32 @@
+-- `machine::books::Books::read` is read's rule on the books, at the size of document 01's controller. Rests on the step.
+use denote.Ref.{now}
+use lib.ListN.{length}
+use Rattle.rules.specs.State.{state-of}
+use Rattle.rules.specs.Steps.{read-rule}
+use Rattle.machine.specs.View.{view}
+use Rattle.machine.specs.Promises.{LogIs}
+use Rattle.machine.proofs.Handed.{size-within, handed-back}
+use borrow.Author.Needs.{needs}
+use Rattle.machine.proofs.books.Books.read.Statement.{statement}
+use Rattle.machine.proofs.books.Books.read.Tie as tie
+
+yard-size-requires : tie.Need-yard-size-requires
+yard-size-requires c κs = search needs
+
+read-requires : tie.Need-read-requires
+read-requires c κs = size-within (c .before .yard-size .ensures)
+
+handed-requires : tie.Need-handed-requires
+handed-requires c κs = search needs
+
+same-length : tie.Need-same-length
+same-length c = search needs
+
+returns : tie.Need-returns
+returns c =
+    let a = c .before .before .before .before .before .before .before .before .before .before .args in
+    handed-back (LogIs (a .self .records) (now (a .log)) _) (λ z. read-rule z (length (now (a .log))) (state-of (view (a .self)) (now (a .table)) (now (a .drafts))) (a .handle) (a .cell)) (c .before .before .before .before .before .yard-size .ensures) (c .handed .ensures) (c .before .before .before .read .ensures)
+
+pub read-spec : {M : Type 1} → statement M
+read-spec =
+    tie.close (tie.spec yard-size-requires read-requires handed-requires same-length returns)

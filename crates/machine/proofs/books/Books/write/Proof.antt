@@ -1,0 +1,36 @@
+-- `machine::books::Books::write` is write's rule on the books, at the size of document 01's controller. Rests on the step.
+use denote.Ref.{now}
+use lib.ListN.{length}
+use mathlib.Core.List.{[]}
+use Rattle.rules.specs.State.{state-of}
+use Rattle.rules.specs.Steps.{write-rule}
+use Rattle.machine.specs.View.{view}
+use Rattle.machine.proofs.Handed.{size-within, handed-back, DraftsAndLog}
+use borrow.Author.Needs.{needs}
+use Rattle.machine.proofs.books.Books.write.Statement.{statement}
+use Rattle.machine.proofs.books.Books.write.Tie as tie
+
+yard-size-requires : tie.Need-yard-size-requires
+yard-size-requires c κs = search needs
+
+write-requires : tie.Need-write-requires
+write-requires c κs = size-within (c .before .before .yard-size .ensures)
+
+handed-requires : tie.Need-handed-requires
+handed-requires c κs = search needs
+
+same-length : tie.Need-same-length
+same-length c = search needs
+
+same-length-2 : tie.Need-same-length-2
+same-length-2 c = search needs
+
+returns : tie.Need-returns
+returns c =
+    let a = c .before .before .before .before .before .before .before .before .before .before .before .before .before .args in
+    handed-back (DraftsAndLog (a .self .records) _ (now (a .log)) _) (λ z. write-rule z (length (now (a .log))) (state-of (view (a .self)) [] (now (a .drafts))) (a .handle) (a .cell) (now (a .value))) (c .before .before .before .before .before .before .before .before .yard-size .ensures) (c .handed .ensures) (c .before .before .before .before .before .write .ensures)
+
+pub write-spec : {M : Type 1} → statement M
+write-spec =
+    tie.close
+    (tie.spec yard-size-requires write-requires handed-requires same-length same-length-2 returns)

@@ -1,0 +1,3 @@
+// The refusals: for each call the first reason that applies, 0 if none does.
+pub mod asked;
+pub mod shared;

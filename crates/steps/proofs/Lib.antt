@@ -1,0 +1,2 @@
+pub mod Either
+pub mod Known
