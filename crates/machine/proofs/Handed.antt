@@ -1,30 +1,17 @@
 -- A call's step, done at the size of document 01's controller, is handed back as the answer of its rule. Rests on the controller's size.
 use mathlib.Core.Path.{_≡_, sym, _∙_, ap, subst}
-use Prim.Native.Nat.{ℕ}
-use mathlib.Core.List.{List}
 use Rattle.rules.specs.declared.Size.{Size}
 use Rattle.rules.specs.Sizes.{Within, yard}
-use Rattle.rules.specs.State.{Outcome, buffer-after}
+use Rattle.rules.specs.State.{Outcome}
 use Rattle.rules.proofs.Shape.{yard-within}
 use Rattle.granting.specs.declared.Step.{Step}
 use Rattle.granting.specs.Stepped.{step-of}
 use Rattle.machine.specs.declared.books.Answer.{Answer}
 use Rattle.machine.specs.View.{answer-of, answer-of-step}
-use Rattle.machine.specs.Promises.{LogIs}
 
 -- the controller's size fits the arrays
 pub size-within : {z : Size} → z ≡ yard → Within z
 size-within size = subst Within (sym size) yard-within
-
--- what else a call leaves, by the outcome of its rule: the table or the drafts and the log; the order buffer
-abbrev pub TableAndLog : ℕ → List ℕ → List ℕ → List ℕ → Outcome → Type 0
-TableAndLog records table log after o = (table ≡ o .after .table) × LogIs records log after o
-
-abbrev pub DraftsAndLog : ℕ → List ℕ → List ℕ → List ℕ → Outcome → Type 0
-DraftsAndLog records drafts log after o = (drafts ≡ o .after .drafts) × LogIs records log after o
-
-abbrev pub BufferIs : List ℕ → List ℕ → Outcome → Type 0
-BufferIs buffer filled o = filled ≡ buffer-after (o .order) buffer
 
 -- what a call leaves at that size, it leaves at document 01's
 pub at-yard : (Leaves : Outcome → Type 0) (rule : Size → Outcome) {z : Size} → z ≡ yard → Leaves (rule z) → Leaves (rule yard)

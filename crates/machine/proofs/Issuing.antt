@@ -11,13 +11,14 @@ use Rattle.rules.specs.Sizes.{yard}
 use Rattle.rules.specs.Books.{opened}
 use Rattle.rules.specs.Handles.{place-of}
 use Rattle.rules.specs.Numbers.{first-reason}
-use Rattle.rules.specs.State.{State, Outcome, nothing, refused, entry-bytes, state-of, log-after, buffer-after}
+use Rattle.rules.specs.State.{State, Outcome, refused, entry-bytes, state-of, log-after, buffer-after}
 use Rattle.rules.specs.Steps.{open-rule, write-rule, read-rule, commit-rule, post-rule, order-rule, show-reasons, show-rule, show-of}
 use Rattle.rules.specs.Calls.{Call, Lending, issued}
 use Rattle.rules.specs.Calls as rule
 use Rattle.rules.specs.Kept.{gives-order, AsLent, NeitherLent}
 use Rattle.rules.proofs.Reasons.{refused-or-not, refusals-change-nothing}
 use Rattle.rules.proofs.Unlent.{unlent, orderless}
+use Rattle.steps.proofs.Either.{log-stays, buffer-stays}
 use Rattle.machine.specs.declared.books.Books.{Books}
 use Rattle.machine.specs.declared.books.Answer.{Answer}
 use Rattle.machine.specs.View.{view, answer-of}
@@ -29,15 +30,6 @@ use Rattle.machine.specs.Called.{lent-to, call-as, call-of}
 -- answers of outcomes that agree are equal
 same-answer : {o narrow : Outcome} → AsLent o narrow → answer-of narrow ≡ answer-of o
 same-answer {o} {narrow} a = rw (a .number, a .answer, a .books)
-
--- nothing goes into the log, or into the order buffer
-log-stays : (records : ℕ) (log : List ℕ) → log ≡ log-after records nothing log
-unfolding log-after entry-bytes
-log-stays records log = sym (splice-nothing _ log)
-
-buffer-stays : {order : List ℕ} (numbers : List ℕ) → order ≡ [] → numbers ≡ buffer-after order numbers
-unfolding buffer-after
-buffer-stays numbers none = rw none (sym (splice-nothing 0 numbers))
 
 module _ (from : Books) (table drafts log numbers : List ℕ) where
   -- the state, and what the call is lent

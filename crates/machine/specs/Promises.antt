@@ -5,9 +5,10 @@ use mathlib.Core.List.{List, []}
 use lib.ListN.{length}
 use Rattle.rules.specs.Sizes.{yard}
 use Rattle.rules.specs.Daylog.{commit-total, day-of}
-use Rattle.rules.specs.State.{Outcome, state-of, log-after, buffer-after, shown-bytes, shown-at}
+use Rattle.rules.specs.State.{Outcome, state-of}
 use Rattle.rules.specs.Steps.{begin-rule, write-rule, read-rule, show-rule, commit-rule, give-up-rule, post-rule, order-rule, close-rule}
 use Rattle.rules.specs.Calls.{issued}
+use Rattle.steps.specs.Left.{LogIs, BufferIs, TableAndLog, DraftsAndLog}
 use Rattle.machine.specs.declared.books.Books.{Books}
 use Rattle.machine.specs.declared.books.Answer.{Answer}
 use Rattle.machine.specs.declared.call.Call.{Call}
@@ -50,31 +51,23 @@ call-outcome b call value table drafts log numbers = issued yard (lent-to b log 
 
 -- ---- what a result leaves, by the outcome
 
--- the log after the call
-abbrev pub LogIs : ℕ → List ℕ → List ℕ → Outcome → Type 0
-LogIs records log after o = after ≡ log-after records (o .entry) log
-
 -- the answer and the log: begin, read, give up, close
 abbrev pub LeavesLog : ℕ → List ℕ → Outcome → Answer → List ℕ → Type 0
 LeavesLog records log o r after = (r ≡ answer-of o) × LogIs records log after o
 
 -- the table too: commit, post
 abbrev pub LeavesTable : ℕ → List ℕ → Outcome → Answer → List ℕ → List ℕ → Type 0
-LeavesTable records log o r table after = (r ≡ answer-of o) × ((table ≡ o .after .table) × LogIs records log after o)
+LeavesTable records log o r table after = (r ≡ answer-of o) × TableAndLog records table log after o
 
 -- the drafts too: write
 abbrev pub LeavesDrafts : ℕ → List ℕ → Outcome → Answer → List ℕ → List ℕ → Type 0
-LeavesDrafts records log o r drafts after = (r ≡ answer-of o) × ((drafts ≡ o .after .drafts) × LogIs records log after o)
+LeavesDrafts records log o r drafts after = (r ≡ answer-of o) × DraftsAndLog records drafts log after o
 
 -- the answer and the order buffer: order
 abbrev pub LeavesBuffer : List ℕ → Outcome → Answer → List ℕ → Type 0
-LeavesBuffer numbers o r filled = (r ≡ answer-of o) × (filled ≡ buffer-after (o .order) numbers)
-
--- the part that is shown, its bytes and where they lie: show
-abbrev pub Shows : List ℕ → List ℕ → (ℕ × ℕ) → (ℕ × ℕ) → List ℕ → (ℕ × ℕ) → Outcome → Type 0
-Shows drafts table drafts-at table-at bytes at o = (bytes ≡ shown-bytes drafts table (o .shown)) × (at ≡ shown-at drafts-at table-at (o .shown))
+LeavesBuffer numbers o r filled = (r ≡ answer-of o) × BufferIs numbers filled o
 
 -- all that a call may be lent: any call by value
 abbrev pub LeavesAll : ℕ → List ℕ → List ℕ → Answer → List ℕ → List ℕ → List ℕ → List ℕ → Outcome → Type 0
 LeavesAll records log numbers r table drafts after filled o =
-    (r ≡ answer-of o) × ((table ≡ o .after .table) × ((drafts ≡ o .after .drafts) × (LogIs records log after o × (filled ≡ buffer-after (o .order) numbers))))
+    (r ≡ answer-of o) × ((table ≡ o .after .table) × ((drafts ≡ o .after .drafts) × (LogIs records log after o × BufferIs numbers filled o)))

@@ -9,14 +9,15 @@ use Rattle.rules.specs.declared.Size.{Size}
 use Rattle.rules.specs.Sizes.{yard}
 use Rattle.rules.specs.Books.{Shaped, opened}
 use Rattle.rules.specs.Sound.{sound, Sound}
-use Rattle.rules.specs.State.{Outcome, state-of}
+use Rattle.rules.specs.State.{state-of}
 use Rattle.rules.specs.Run.{Machine, after-call}
 use Rattle.rules.specs.Kept.{Joined}
+use Rattle.steps.specs.Left.{LogIs, Shows}
 use Rattle.machine.specs.declared.books.Books.{Books}
 use Rattle.machine.specs.declared.books.Answer.{Answer}
 use Rattle.machine.specs.declared.call.Call.{Call}
 use Rattle.machine.specs.View.{view, books-back, answer-of}
-use Rattle.machine.specs.Promises.{begin-outcome, write-outcome, read-outcome, show-outcome, commit-outcome, give-up-outcome, post-outcome, order-outcome, close-outcome, call-outcome, LogIs, LeavesLog, LeavesTable, LeavesDrafts, LeavesBuffer, Shows, LeavesAll}
+use Rattle.machine.specs.Promises.{begin-outcome, write-outcome, read-outcome, show-outcome, commit-outcome, give-up-outcome, post-outcome, order-outcome, close-outcome, call-outcome, LeavesLog, LeavesTable, LeavesDrafts, LeavesBuffer, LeavesAll}
 
 -- what `is_sound` promises of its answer r, of whatever books: it is true exactly if the clauses of soundness hold
 abbrev pub AnswerSaysSound : Type 0

@@ -9,39 +9,36 @@ use Rattle.basics.proofs.Bytes.{splice-nothing}
 use Rattle.rules.specs.Numbers.{Reason, first-reason}
 use Rattle.rules.specs.State.{State, Outcome, nothing, entry-bytes, log-after, buffer-after, shown-bytes, shown-at, refused, unless-refused}
 use Rattle.granting.specs.declared.Step.{Step}
+use Rattle.steps.specs.Left.{LogIs, BufferIs, TableAndLog, DraftsAndLog, Shows}
 use Rattle.granting.specs.Stepped.{step-of, refused-step}
 
 -- ---- what a call leaves, by the outcome of its rule
 
--- the step and the log
+-- the step, and the log
 abbrev pub LeavesLog : ℕ → Step → List ℕ → List ℕ → Outcome → Type 0
-LeavesLog records step log after o = (step ≡ step-of o) × (after ≡ log-after records (o .entry) log)
+LeavesLog records step log after o = (step ≡ step-of o) × LogIs records log after o
 
 -- the step, the table and the log
 abbrev pub LeavesTable : ℕ → Step → List ℕ → List ℕ → List ℕ → Outcome → Type 0
-LeavesTable records step table log after o = (step ≡ step-of o) × ((table ≡ o .after .table) × (after ≡ log-after records (o .entry) log))
+LeavesTable records step table log after o = (step ≡ step-of o) × TableAndLog records table log after o
 
 -- the step, the drafts and the log
 abbrev pub LeavesDrafts : ℕ → Step → List ℕ → List ℕ → List ℕ → Outcome → Type 0
-LeavesDrafts records step drafts log after o = (step ≡ step-of o) × ((drafts ≡ o .after .drafts) × (after ≡ log-after records (o .entry) log))
+LeavesDrafts records step drafts log after o = (step ≡ step-of o) × DraftsAndLog records drafts log after o
 
 -- the step and the order buffer
 abbrev pub LeavesBuffer : Step → List ℕ → List ℕ → Outcome → Type 0
-LeavesBuffer step buffer filled o = (step ≡ step-of o) × (filled ≡ buffer-after (o .order) buffer)
-
--- the part that is shown: its bytes and where they lie
-abbrev pub Shows : List ℕ → List ℕ → (ℕ × ℕ) → (ℕ × ℕ) → List ℕ → (ℕ × ℕ) → Outcome → Type 0
-Shows drafts table drafts-at table-at bytes at o = (bytes ≡ shown-bytes drafts table (o .shown)) × (at ≡ shown-at drafts-at table-at (o .shown))
+LeavesBuffer step buffer filled o = (step ≡ step-of o) × BufferIs buffer filled o
 
 -- ---- nothing added
 
-log-stays : (records : ℕ) (log : List ℕ) → log ≡ log-after records nothing log
+pub log-stays : (records : ℕ) (log : List ℕ) → log ≡ log-after records nothing log
 unfolding log-after entry-bytes
 log-stays records log = sym (splice-nothing _ log)
 
-buffer-stays : (buffer : List ℕ) → buffer ≡ buffer-after [] buffer
+pub buffer-stays : {order : List ℕ} (buffer : List ℕ) → order ≡ [] → buffer ≡ buffer-after order buffer
 unfolding buffer-after
-buffer-stays buffer = sym (splice-nothing 0 buffer)
+buffer-stays buffer none = rw none (sym (splice-nothing 0 buffer))
 
 -- ---- refused or granted
 
@@ -85,7 +82,7 @@ module _ (reasons : List Reason) (s : State) (o : Outcome) {n : ℕ} (asked : n 
 
     pub refused-buffer : LeavesBuffer step log log (unless-refused reasons s o)
     unfolding refused
-    refused-buffer = when-refused (LeavesBuffer step log log) other (step-is, buffer-stays log)
+    refused-buffer = when-refused (LeavesBuffer step log log) other (step-is, buffer-stays log refl)
 
   -- a refused show shows an empty part, at the table's front
   pub refused-shows : n ≢ 0 → (drafts table : List ℕ) (drafts-at table-at : ℕ × ℕ) → Shows drafts table drafts-at table-at [] (table-at .0, 0 + table-at .1) (unless-refused reasons s o)
