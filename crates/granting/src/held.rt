@@ -7,11 +7,11 @@ ghost use Rattle.rules.specs.Sizes.{Within, width, most-records, log-bytes, dra
 ghost use Rattle.rules.specs.Books.{books-of};
 ghost use Rattle.rules.specs.State.{state-of, log-after};
 ghost use Rattle.rules.specs.Steps.{write-of, own-read-of, give-up-of, turned-back};
-ghost use Rattle.granting.specs.Stepped.{step-of};
-use crate::Step;
-use crate::record;
+ghost use Rattle.recording.specs.Stepped.{step-of};
 use cells::cell;
 use place::change;
+use recording::Step;
+use recording::record;
 use rules::Place;
 use rules::Size;
 
@@ -69,7 +69,8 @@ pub fn turn_back(
 {
     let p = places[i];
     record::add(log, records, kind, i, p, c, [0; 8]);
-    record::changed(9, 0, places, records, i, change::free(p))
+    let freed = change::free(p);
+    record::changed(9, 0, places, records, i, freed)
 }
 
 // A read of a written cell: its draft is recorded, and no place changes.

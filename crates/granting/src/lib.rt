@@ -1,16 +1,4 @@
-// What each call does once no reason refuses it, for any number of places and cells up to 32.
+// What the calls that are not judged do once no reason refuses them, and what Conflict does, for any number of places and cells up to 32.
 pub mod held;
-pub mod judged;
-pub mod record;
 pub mod taken;
 pub mod whole_day;
-
-use rules::Place;
-
-// What a call comes to: its number, the handle of a begin or post or the count of an order, and the books after it.
-pub struct Step {
-    pub number: u8,
-    pub answer: u32,
-    pub records: u16,
-    pub places: [Place; 32],
-}

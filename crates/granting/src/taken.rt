@@ -7,15 +7,15 @@ ghost use Rattle.rules.specs.Sizes.{Within, most-records, log-bytes, table-byte
 ghost use Rattle.rules.specs.Books.{books-of, lowest-free, of-places};
 ghost use Rattle.rules.specs.State.{state-of, log-after};
 ghost use Rattle.rules.specs.Steps.{begin-of, post-of};
-ghost use Rattle.granting.specs.Stepped.{step-of};
-use crate::Step;
-use crate::record;
+ghost use Rattle.recording.specs.Stepped.{step-of};
 use cells::cell;
 use place::change;
 use place::handle;
-use place::search;
+use recording::Step;
+use recording::record;
 use rules::Place;
 use rules::Size;
+use survey::search;
 
 // Begin takes the lowest free place and answers the handle.
 pub fn begin(places: [Place; 32], records: u16, z: Size, log: &mut [u8]) -> Step
@@ -26,9 +26,9 @@ pub fn begin(places: [Place; 32], records: u16, z: Size, log: &mut [u8]) -> Step
     ensures log { λ r. ⌜ now (log .exit) ≡ log-after records (begin-of z (state-of (books-of records places) [] []) .entry) (now (log .entry)) ⌝ }
 {
     let i = search::lowest_free_of(places, z);
-    let p = change::begin(places[i], records + 1);
-    record::add(log, records, 1, i, p, 0, [0; 8]);
-    record::changed(0, handle::of(i, p.turn), places, records, i, p)
+    let begun = change::begin(places[i], records + 1);
+    record::add(log, records, 1, i, begun, 0, [0; 8]);
+    record::changed(0, handle::of(i, begun.turn), places, records, i, begun)
 }
 
 // Post takes the lowest free place, writes the table and answers the handle.
@@ -50,8 +50,8 @@ pub fn post(
     ensures log { λ r. ⌜ now (log .exit) ≡ log-after records (post-of z (state-of (books-of records places) (now (table .entry)) []) c value .entry) (now (log .entry)) ⌝ }
 {
     let i = search::lowest_free_of(places, z);
-    let p = change::post(places[i], c, records + 1);
+    let posted = change::post(places[i], c, records + 1);
     cell::put_value_at(table, c, value);
-    record::add(log, records, 9, i, p, c, value);
-    record::changed(0, handle::of(i, p.turn), places, records, i, p)
+    record::add(log, records, 9, i, posted, c, value);
+    record::changed(0, handle::of(i, posted.turn), places, records, i, posted)
 }

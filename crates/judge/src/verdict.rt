@@ -10,9 +10,9 @@ use crate::cycle;
 use crate::order;
 use pairs::company;
 use pairs::square;
-use place::columns;
 use rules::Place;
 use rules::Size;
+use survey::columns;
 
 // Whether the pairs of the company of the transaction at place i contain a cycle.
 pub fn is_conflict(places: [Place; 32], i: usize, z: Size) -> bool

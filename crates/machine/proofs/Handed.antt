@@ -4,8 +4,8 @@ use Rattle.rules.specs.declared.Size.{Size}
 use Rattle.rules.specs.Sizes.{Within, yard}
 use Rattle.rules.specs.State.{Outcome}
 use Rattle.rules.proofs.Shape.{yard-within}
-use Rattle.granting.specs.declared.Step.{Step}
-use Rattle.granting.specs.Stepped.{step-of}
+use Rattle.recording.specs.declared.Step.{Step}
+use Rattle.recording.specs.Stepped.{step-of}
 use Rattle.machine.specs.declared.books.Answer.{Answer}
 use Rattle.machine.specs.View.{answer-of, answer-of-step}
 

@@ -7,8 +7,8 @@ ghost use Rattle.rules.specs.Sound.{sound};
 ghost use Rattle.rules.specs.State.{log-after, buffer-after, shown-bytes, shown-at};
 ghost use Rattle.machine.specs.View.{view, books-back, answer-of, answer-of-step};
 ghost use Rattle.machine.specs.Promises.{begin-outcome, write-outcome, read-outcome, show-outcome, commit-outcome, give-up-outcome, post-outcome, order-outcome, close-outcome};
-use granting::Step;
 use place::change;
+use recording::Step;
 use rules::Place;
 use rules::Size;
 use sound::whole;
@@ -140,16 +140,8 @@ impl Books {
         ensures place { λ r. ⌜ ptr r ≡ shown-at (ptr (drafts .entry)) (ptr (table .entry)) (show-outcome self given handle cell (now (drafts .entry)) (now (table .entry)) .shown) ⌝ }
     {
         let places = self.places;
-        looking::show(
-            places,
-            self.records,
-            yard_size(),
-            given,
-            handle,
-            cell,
-            drafts,
-            table,
-        )
+        let z = yard_size();
+        looking::show(places, self.records, z, given, handle, cell, drafts, table)
     }
 
     // Commit is judged as if granted; granted, the written cells' drafts go into the table and the place becomes committed.

@@ -8,10 +8,10 @@ use crate::shared;
 use judge::verdict;
 use place::gate;
 use place::handle;
-use place::search;
 use rules::Place;
 use rules::Size;
 use sound::whole;
+use survey::search;
 
 // Begin: 1, 2, 6, 7.
 pub fn of_begin(places: [Place; 32], records: u16, z: Size, log: usize) -> u8

@@ -11,10 +11,10 @@ ghost use Rattle.rules.specs.Steps.{soundness-reason, handle-reasons, handle-ce
 ghost use Rattle.place.specs.Calls.{caller};
 use place::gate;
 use place::handle;
-use place::search;
 use rules::Place;
 use rules::Size;
 use sound::whole;
+use survey::search;
 
 // The table's length in bytes.
 pub fn table_bytes(z: Size) -> usize

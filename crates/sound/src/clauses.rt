@@ -6,9 +6,9 @@ ghost use Rattle.rules.specs.Sizes.{Within, width};
 ghost use Rattle.rules.specs.Books.{is-held, is-committed, place-at, of-places};
 ghost use Rattle.rules.specs.Sound.{cells-clear, is-clear, read-sound, reads-sound, held-sound, commit-sound, place-sound, differ};
 ghost use Rattle.sound.specs.Apart.{apart};
-use place::columns;
 use rules::Place;
 use rules::Size;
+use survey::columns;
 
 // No cell is written, and none was read.
 fn are_cells_clear(p: Place, z: Size) -> bool

@@ -4,9 +4,9 @@ ghost use Rattle.rules.specs.Sizes.{Within};
 ghost use Rattle.rules.specs.Books.{books-of};
 ghost use Rattle.rules.specs.Sound.{sound};
 use crate::clauses;
-use place::search;
 use rules::Place;
 use rules::Size;
+use survey::search;
 
 // Whether the books of that record count and those places are sound.
 pub fn are_sound(places: [Place; 32], records: u16, z: Size) -> bool

@@ -7,14 +7,14 @@ ghost use Rattle.rules.specs.Books.{books-of};
 ghost use Rattle.rules.specs.Daylog.{commit-total, day-of};
 ghost use Rattle.rules.specs.State.{state-of, log-after};
 ghost use Rattle.rules.specs.Steps.{commit-rule, give-up-rule, close-rule};
-ghost use Rattle.granting.specs.Stepped.{step-of};
-use granting::Step;
+ghost use Rattle.recording.specs.Stepped.{step-of};
 use granting::held;
-use granting::judged;
-use granting::record;
 use granting::whole_day;
+use judging::judged;
 use place::handle;
 use reasons::asked;
+use recording::Step;
+use recording::record;
 use rules::Place;
 use rules::Size;
 
@@ -33,7 +33,7 @@ pub fn commit(
     ensures table { λ r. ⌜ now (table .exit) ≡ commit-rule z (length (now (log .entry))) (state-of (books-of records places) (now (table .entry)) (now (drafts .entry))) handle .after .table ⌝ }
     ensures log { λ r. ⌜ now (log .exit) ≡ log-after records (commit-rule z (length (now (log .entry))) (state-of (books-of records places) (now (table .entry)) (now (drafts .entry))) handle .entry) (now (log .entry)) ⌝ }
 {
-    let number = asked::of_commit(
+    let reason = asked::of_commit(
         places,
         records,
         z,
@@ -42,8 +42,8 @@ pub fn commit(
         drafts.len(),
         log.len(),
     );
-    if number != 0 {
-        return record::refused(number, places, records);
+    if reason != 0 {
+        return record::refused(reason, places, records);
     }
     judged::commit(
         places,

@@ -7,13 +7,13 @@ ghost use Rattle.rules.specs.Sizes.{Within};
 ghost use Rattle.rules.specs.Books.{books-of};
 ghost use Rattle.rules.specs.State.{state-of, buffer-after, shown-bytes, shown-at};
 ghost use Rattle.rules.specs.Steps.{show-rule, order-rule};
-ghost use Rattle.granting.specs.Stepped.{step-of};
+ghost use Rattle.recording.specs.Stepped.{step-of};
 use cells::shown;
-use granting::Step;
-use granting::record;
 use granting::whole_day;
 use place::handle;
 use reasons::asked;
+use recording::Step;
+use recording::record;
 use rules::Place;
 use rules::Size;
 

@@ -6,14 +6,14 @@ ghost use Rattle.rules.specs.Sizes.{Within};
 ghost use Rattle.rules.specs.Books.{books-of};
 ghost use Rattle.rules.specs.State.{state-of, log-after};
 ghost use Rattle.rules.specs.Steps.{write-rule, read-rule};
-ghost use Rattle.granting.specs.Stepped.{step-of};
+ghost use Rattle.recording.specs.Stepped.{step-of};
 use daylog::bytes;
-use granting::Step;
 use granting::held;
-use granting::judged;
-use granting::record;
+use judging::judged;
 use place::handle;
 use reasons::asked;
+use recording::Step;
+use recording::record;
 use rules::Place;
 use rules::Size;
 
@@ -33,7 +33,7 @@ pub fn write(
     ensures drafts { λ r. ⌜ now (drafts .exit) ≡ write-rule z (length (now (log .entry))) (state-of (books-of records places) [] (now (drafts .entry))) handle cell (now (value .entry)) .after .drafts ⌝ }
     ensures log { λ r. ⌜ now (log .exit) ≡ log-after records (write-rule z (length (now (log .entry))) (state-of (books-of records places) [] (now (drafts .entry))) handle cell (now (value .entry)) .entry) (now (log .entry)) ⌝ }
 {
-    let number = asked::of_write(
+    let reason = asked::of_write(
         places,
         records,
         z,
@@ -43,8 +43,8 @@ pub fn write(
         drafts.len(),
         log.len(),
     );
-    if number != 0 {
-        return record::refused(number, places, records);
+    if reason != 0 {
+        return record::refused(reason, places, records);
     }
     held::write(
         places,
@@ -86,14 +86,6 @@ pub fn read(
     if number != 0 {
         return record::refused(number, places, records);
     }
-    judged::read(
-        places,
-        records,
-        z,
-        handle::place_of(handle),
-        cell as usize,
-        table,
-        drafts,
-        log,
-    )
+    let i = handle::place_of(handle);
+    judged::read(places, records, z, i, cell as usize, table, drafts, log)
 }

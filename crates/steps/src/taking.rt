@@ -6,12 +6,12 @@ ghost use Rattle.rules.specs.Sizes.{Within};
 ghost use Rattle.rules.specs.Books.{books-of};
 ghost use Rattle.rules.specs.State.{state-of, log-after};
 ghost use Rattle.rules.specs.Steps.{begin-rule, post-rule};
-ghost use Rattle.granting.specs.Stepped.{step-of};
+ghost use Rattle.recording.specs.Stepped.{step-of};
 use daylog::bytes;
-use granting::Step;
-use granting::record;
 use granting::taken;
 use reasons::asked;
+use recording::Step;
+use recording::record;
 use rules::Place;
 use rules::Size;
 
@@ -21,9 +21,9 @@ pub fn begin(places: [Place; 32], records: u16, z: Size, log: &mut [u8]) -> Step
     ensures step { λ r. ⌜ r ≡ step-of (begin-rule z (length (now (log .entry))) (state-of (books-of records places) [] [])) ⌝ }
     ensures log { λ r. ⌜ now (log .exit) ≡ log-after records (begin-rule z (length (now (log .entry))) (state-of (books-of records places) [] []) .entry) (now (log .entry)) ⌝ }
 {
-    let number = asked::of_begin(places, records, z, log.len());
-    if number != 0 {
-        return record::refused(number, places, records);
+    let reason = asked::of_begin(places, records, z, log.len());
+    if reason != 0 {
+        return record::refused(reason, places, records);
     }
     taken::begin(places, records, z, log)
 }

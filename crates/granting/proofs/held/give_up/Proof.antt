@@ -1,6 +1,6 @@
 -- `granting::held::give_up` does what give up's rule does when nothing refuses it. Rests on what the place's change and the record are.
 use denote.Ref.{now}
-use Rattle.granting.proofs.Outcomes.{give-up-meets}
+use Rattle.recording.proofs.Outcomes.{give-up-meets}
 use borrow.Author.Needs.{needs}
 use Rattle.granting.proofs.held.give_up.Statement.{statement}
 use Rattle.granting.proofs.held.give_up.Tie as tie

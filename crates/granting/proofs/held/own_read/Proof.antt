@@ -1,6 +1,6 @@
 -- `granting::held::own_read` does what the rule of a read of a written cell does. Rests on what the draft and the record are.
 use denote.Ref.{now}
-use Rattle.granting.proofs.Outcomes.{own-read-meets}
+use Rattle.recording.proofs.Outcomes.{own-read-meets}
 use borrow.Author.Needs.{needs}
 use Rattle.granting.proofs.held.own_read.Statement.{statement}
 use Rattle.granting.proofs.held.own_read.Tie as tie

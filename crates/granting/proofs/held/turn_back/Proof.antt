@@ -1,6 +1,6 @@
 -- `granting::held::turn_back` does what Conflict does to the caller. Rests on what the place's change and the record are.
 use denote.Ref.{now}
-use Rattle.granting.proofs.Outcomes.{turn-back-meets}
+use Rattle.recording.proofs.Outcomes.{turn-back-meets}
 use borrow.Author.Needs.{needs}
 use Rattle.granting.proofs.held.turn_back.Statement.{statement}
 use Rattle.granting.proofs.held.turn_back.Tie as tie

@@ -1,6 +1,6 @@
 -- `granting::held::write` does what write's rule does when nothing refuses it. Rests on what the draft, the place's change and the record are.
 use denote.Ref.{now}
-use Rattle.granting.proofs.Outcomes.{write-meets}
+use Rattle.recording.proofs.Outcomes.{write-meets}
 use borrow.Author.Needs.{needs}
 use Rattle.granting.proofs.held.write.Statement.{statement}
 use Rattle.granting.proofs.held.write.Tie as tie

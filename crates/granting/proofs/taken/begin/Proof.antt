@@ -1,6 +1,6 @@
 -- `granting::taken::begin` does what begin's rule does when nothing refuses it. Rests on what the lowest free place, the place's change and the record are.
 use denote.Ref.{now}
-use Rattle.granting.proofs.Outcomes.{begin-meets}
+use Rattle.recording.proofs.Outcomes.{begin-meets}
 use borrow.Author.Needs.{needs}
 use Rattle.granting.proofs.taken.begin.Statement.{statement}
 use Rattle.granting.proofs.taken.begin.Tie as tie

@@ -1,6 +1,6 @@
 -- `granting::taken::post` does what post's rule does when nothing refuses it. Rests on what the lowest free place, the place's change, the cell and the record are.
 use denote.Ref.{now}
-use Rattle.granting.proofs.Outcomes.{post-meets}
+use Rattle.recording.proofs.Outcomes.{post-meets}
 use borrow.Author.Needs.{needs}
 use Rattle.granting.proofs.taken.post.Statement.{statement}
 use Rattle.granting.proofs.taken.post.Tie as tie
