@@ -1,0 +1,51 @@
+-- The machine's call for a line of a script, and what playing a line leaves.
+use Prim.Native.Nat.{ℕ, zero, suc, _≤_, _<_}
+use mathlib.Core.Path.{_≡_}
+use mathlib.Core.Bool.{cond, _&&_}
+use mathlib.Core.List.{List}
+use lib.Dec.{eqb, leb}
+use lib.ListN.{take, replicate}
+use Rattle.rules.specs.State.{Outcome, log-after}
+use Rattle.texts.specs.Placed.{with-text}
+use Rattle.script.specs.Calls.{value-on}
+use Rattle.machine.specs.declared.books.Books.{Books}
+use Rattle.machine.specs.View.{answer-of}
+use Rattle.machine.specs.Promises.{call-outcome}
+use Rattle.machine.specs.declared.call.Call.{Call}
+use Rattle.machine.specs.declared.call.Kind.{Kind}
+use Rattle.machine.specs.declared.call.Kind.the-variants.{Open, Begin, Write, Read, Commit, GiveUp, Post, Order, Close}
+use Rattle.script.specs.declared.lines.Line.{Line}
+
+-- the machine's kind of call, by the kind of the line: begin, write, read, commit, give up, post, order, close, open
+unfoldable pub kind-for : ℕ → Kind
+kind-for zero = Begin
+kind-for (suc zero) = Write
+kind-for (suc (suc zero)) = Read
+kind-for (suc (suc (suc zero))) = Commit
+kind-for (suc (suc (suc (suc zero)))) = GiveUp
+kind-for (suc (suc (suc (suc (suc zero))))) = Post
+kind-for (suc (suc (suc (suc (suc (suc zero)))))) = Order
+kind-for (suc (suc (suc (suc (suc (suc (suc zero))))))) = Close
+kind-for (suc (suc (suc (suc (suc (suc (suc (suc n)))))))) = Open
+
+-- a post names a cell; every other call that has a number names a handle first, and then a cell
+unfoldable pub call-for : Line → Call
+call-for line =
+    cond (eqb (line .kind) 5) (record { kind = Post; handle = 0; cell = line .first; given = 0 })
+    (record { kind = kind-for (line .kind); handle = line .first; cell = line .second; given = 0 })
+
+-- the outcome of the machine's call for a line, with the value that stands on the line and an order buffer of zeros
+unfoldable pub line-outcome : Books → Line → List ℕ → List ℕ → List ℕ → List ℕ → Outcome
+line-outcome books line content table drafts log =
+    call-outcome books (call-for line) (take 128 (value-on content (line .kind))) table drafts log (replicate 32 0)
+
+-- an open and a granted close begin a new day: its opening table is the table as it is
+unfoldable pub opening-after : ℕ → ℕ → List ℕ → List ℕ → List ℕ
+opening-after kind number table opening = cond (leb 7 kind && eqb number 0) (with-text opening 0 table) opening
+
+-- what playing a line leaves of the books, the opening table and all that is lent to the machine: from the table's line on, all as it was; else
+-- what the machine's call leaves
+pub record Played (books : Books) (line : Line) (content opening table drafts log : List ℕ) (after : Books) (opening′ table′ drafts′ log′ : List ℕ) : Type 0 where
+  pub looks : 9 ≤ line .kind → (after ≡ books) × (opening′ ≡ opening) × (table′ ≡ table) × (drafts′ ≡ drafts) × (log′ ≡ log)
+  pub calls : line .kind < 9 → let o = line-outcome books line content table drafts log in
+      (after ≡ answer-of o .books) × (opening′ ≡ opening-after (line .kind) (o .number) (o .after .table) opening) × (table′ ≡ o .after .table) × (drafts′ ≡ o .after .drafts) × (log′ ≡ log-after (books .records) (o .entry) log)

@@ -1,0 +1,4 @@
+pub mod Counting
+pub mod Putting
+pub mod Saying
+pub mod Spelling
