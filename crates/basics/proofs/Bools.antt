@@ -49,6 +49,21 @@ pub and-fails-right : (a b : Bool) → b ≡ false → a && b ≡ false
 and-fails-right true b e = e
 and-fails-right false b e = refl
 
+-- tests that are asked together may be asked in another order
+pub and-swap : (a b c : Bool) → a && (b && c) ≡ b && (a && c)
+and-swap true b c = refl
+and-swap false true c = refl
+and-swap false false c = refl
+
+pub and-across : (a b c d : Bool) → (a && b) && (c && d) ≡ (a && c) && (b && d)
+and-across true b c d = and-swap b c d
+and-across false b c d = refl
+
+-- the second matters only where the first passes
+pub and-when : (a : Bool) {b c : Bool} → (a ≡ true → b ≡ c) → a && b ≡ a && c
+and-when true h = h refl
+and-when false h = refl
+
 -- of two tests that do not both pass, one fails
 pub and-false : (a b : Bool) → a && b ≡ false → (a ≡ false) ⊎ (b ≡ false)
 and-false true b e = inr e

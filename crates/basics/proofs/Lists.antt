@@ -1,17 +1,26 @@
--- Laws of the tests on lists: what each says of the members, how it goes over an append, and what a list that keeps a relation orders.
--- Assumes nothing.
+-- Laws of the tests on lists: what each says of the members, how it goes over an append, what a list that keeps a relation orders,
+-- and how long a list without repeats can be. Assumes nothing.
 use mathlib.Core.Path.{_≡_, refl, sym, _∙_, ap, ap₂, subst}
 use mathlib.Core.Logic.{_⊎_, inl, inr, ⊎-elim, _↔_}
 use mathlib.Core.Bool.{Bool, true, false, not, cond, _&&_, _||_, true≢false, false≢true, and-assoc, or-assoc}
 use mathlib.Core.List.{List, [], _∷_, _++_, map, List·Memᴰ, List·Memᴰ·head, List·Memᴰ·tail}
-use Prim.Native.Nat.{ℕ, suc, _+_, _<_, suc-le-suc}
+use Prim.Native.Nat.{ℕ, suc, _+_, _<_, _≤_, suc-le-suc}
 use lib.ListN.{length, drop, length-append}
 use lib.Seq.{drop-at}
 use native.Mathlib.Omega.{arith}
 use lib.Dec.{eqb}
 use borrow.Author.Tests.{eqb-true, eqb-false, eq-eqb, ne-eqb, not-true}
+use Rattle.basics.specs.Below.{countBelow}
 use Rattle.basics.specs.Lists.{allIn, anyIn, member, distinct, keeps}
 use Rattle.basics.proofs.Bools.{clash, false-of-not, and-left, and-right, and-both, and-false, or-true, or-left, or-right, or-fails, equal-or-not}
+use Rattle.basics.proofs.Below.{count-at-most, count-lt}
+
+-- four tests of which one passes, in two orders
+or-pairs : (a b c d : Bool) → (a || b) || (c || d) ≡ (a || c) || (b || d)
+or-pairs true b c d = refl
+or-pairs false true true d = refl
+or-pairs false true false d = refl
+or-pairs false false c d = refl
 
 module _ {ℓ} {A : Type ℓ} (p : A → Bool) where
   -- each member passes
@@ -75,6 +84,12 @@ module _ {ℓ} {A : Type ℓ} (p q : A → Bool) where
   unfolding anyIn
   any-in-cong [] h = refl
   any-in-cong (x ∷ xs) h = ap₂ _||_ (h x (List·Memᴰ·head refl)) (any-in-cong xs (λ y m. h y (List·Memᴰ·tail m)))
+
+  -- some member passes one of two tests
+  pub any-in-or : (xs : List A) → anyIn (λ x. p x || q x) xs ≡ anyIn p xs || anyIn q xs
+  unfolding anyIn
+  any-in-or [] = refl
+  any-in-or (x ∷ xs) = rw (any-in-or xs) (or-pairs (p x) (q x) (anyIn p xs) (anyIn q xs))
 
 module _ (k : ℕ) where
   -- to stand in a list is to be a member
@@ -204,6 +219,25 @@ keeps-cong before before′ (x ∷ xs) h =
     (any-in-cong (λ k. before k x) (λ k. before′ k x) xs (λ k i. h k x (member-tail k x xs (member-of k xs i)) (member-head x x xs refl)))
     (keeps-cong before before′ xs (λ k m i j. h k m (member-tail k x xs i) (member-tail m x xs j)))
 
+-- a relation that holds of nobody is kept
+pub keeps-nobody : (before : ℕ → ℕ → Bool) (xs : List ℕ) → ((k m : ℕ) → before k m ≡ false) → keeps before xs ≡ true
+keeps-nobody before [] h = keeps-nil before
+keeps-nobody before (x ∷ xs) h = keeps-cons before x xs (λ k i. h k x) (keeps-nobody before xs h)
+
+-- one of two relations is kept exactly if both are
+and-pairs : (a b c d : Bool) → not (a || b) && (c && d) ≡ (not a && c) && (not b && d)
+and-pairs true b c d = refl
+and-pairs false true true d = refl
+and-pairs false true false d = refl
+and-pairs false false c d = refl
+
+pub keeps-or : (p q : ℕ → ℕ → Bool) (xs : List ℕ) → keeps (λ k m. p k m || q k m) xs ≡ keeps p xs && keeps q xs
+unfolding keeps
+keeps-or p q [] = refl
+keeps-or p q (x ∷ xs) =
+    rw (any-in-or (λ k. p k x) (λ k. q k x) xs, keeps-or p q xs)
+    (and-pairs (anyIn (λ k. p k x) xs) (anyIn (λ k. q k x) xs) (keeps p xs) (keeps q xs))
+
 -- no number stands in the list twice: the list keeps equality
 distinct-is-keeps : (xs : List ℕ) → distinct xs ≡ keeps (λ k m. eqb m k) xs
 unfolding distinct keeps member
@@ -226,6 +260,18 @@ distinct-head x xs e = not-true (member x xs) (and-left (not (member x xs)) (dis
 pub distinct-tail : (x : ℕ) (xs : List ℕ) → distinct (x ∷ xs) ≡ true → distinct xs ≡ true
 unfolding distinct
 distinct-tail x xs e = and-right (not (member x xs)) (distinct xs) e
+
+-- relations that agree on numbers that differ are kept alike by such a list
+pub distinct-keeps-cong : (before before′ : ℕ → ℕ → Bool) (xs : List ℕ) → distinct xs ≡ true
+    → ((k m : ℕ) → (k ≡ m → ⊥) → before k m ≡ before′ k m) → keeps before xs ≡ keeps before′ xs
+unfolding keeps
+distinct-keeps-cong before before′ [] d h = refl
+distinct-keeps-cong before before′ (x ∷ xs) d h =
+    ap₂ (λ a b. not a && b) (any-in-cong (λ k. before k x) (λ k. before′ k x) xs (λ k i. h k x (differs k i)))
+    (distinct-keeps-cong before before′ xs (distinct-tail x xs d) h)
+  where
+    differs : (k : ℕ) → List·Memᴰ k xs → k ≡ x → ⊥
+    differs k i q = clash (subst (λ (j : ℕ). member j xs ≡ true) q (member-of k xs i)) (distinct-head x xs d)
 
 -- of two parts each is distinct, and they share nobody
 module _ (xs ys : List ℕ) where
@@ -251,6 +297,23 @@ module _ (xs ys : List ℕ) where
 -- nobody listed after m is m
 pub distinct-split : (xs ys : List ℕ) (m : ℕ) → distinct (xs ++ (m ∷ ys)) ≡ true → member m ys ≡ false
 distinct-split xs ys m e = distinct-head m ys (distinct-second xs (m ∷ ys) e)
+
+-- numbers without repeats that are all taken by a function below a limit are no more than the limit
+module _ (f : ℕ → ℕ) (n : ℕ) where
+  abbrev Reached : List ℕ → Type 0
+  Reached xs = (x : ℕ) → member x xs ≡ true → (i : ℕ) × (i < n) × (f i ≡ x)
+
+  distinct-counted : (xs : List ℕ) → distinct xs ≡ true → Reached xs → length xs ≤ countBelow (λ i. member (f i) xs) n
+  distinct-counted [] e h = omega arith
+  distinct-counted (x ∷ xs) e h =
+      let rest = distinct-counted xs (distinct-tail x xs e) (λ y m. h y (member-tail y x xs m)) in
+      let at = h x (member-head x x xs refl) in
+      let more = count-lt (λ i. member (f i) xs) (λ i. member (f i) (x ∷ xs)) n (λ i k m. member-tail (f i) x xs m) (at .0) (at .1)
+      (ap (λ y. member y xs) (at .2) ∙ distinct-head x xs e) (member-head (f (at .0)) x xs (at .2)) in
+      omega arith
+
+  pub distinct-few : (xs : List ℕ) → distinct xs ≡ true → Reached xs → length xs ≤ n
+  distinct-few xs e h = omega (arith, distinct-counted xs e h, count-at-most (λ i. member (f i) xs) n)
 
 -- of one list, two ends of the same length are the same
 pub same-end {ℓ} : {A : Type ℓ} (xs us ys vs : List A) → length us ≡ length vs → xs ++ us ≡ ys ++ vs → us ≡ vs

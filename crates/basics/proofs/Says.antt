@@ -3,11 +3,14 @@ use Prim.Native.Nat.{ℕ, _≤_, _<_}
 use mathlib.Core.Path.{_≡_, refl}
 use mathlib.Core.Logic.{_↔_, _⊎_, inl, inr, ⊎-elim}
 use mathlib.Core.Bool.{Bool, true, false, not, cond, _&&_, _||_, true≢false, false≢true}
+use mathlib.Core.List.{List, List·Memᴰ}
 use lib.Dec.{leb, ltb, eqb}
 use borrow.Author.Tests.{eqb-true, eq-eqb, leb-true, le-leb, ltb-true, lt-ltb}
-use Rattle.basics.specs.Below.{allBelow}
+use Rattle.basics.specs.Below.{allBelow, anyBelow}
+use Rattle.basics.specs.Lists.{anyIn}
 use Rattle.basics.proofs.Bools.{clash, and-left, and-right, and-both, or-true, or-left, or-right}
-use Rattle.basics.proofs.Below.{all-at, all-of}
+use Rattle.basics.proofs.Below.{all-at, all-of, any-at, any-of}
+use Rattle.basics.proofs.Lists.{any-in-at, any-in-of}
 
 -- comparisons of numbers
 pub eqb-says : (a b : ℕ) → (eqb a b ≡ true) ↔ (a ≡ b)
@@ -59,3 +62,11 @@ either-says false s o = (λ e. (λ q. absurd (clash q refl), λ q. o .0 e), λ f
 -- a test of all numbers below a limit
 pub all-says : (p : ℕ → Bool) (n : ℕ) {P : ℕ → Type 0} → ((i : ℕ) → i < n → (p i ≡ true) ↔ P i) → (allBelow p n ≡ true) ↔ ((i : ℕ) → i < n → P i)
 all-says p n s = (λ e i h. s i h .0 (all-at p n e i h), λ f. all-of p n (λ i h. s i h .1 (f i h)))
+
+-- a test of some number below a limit, and of some member of a list
+pub any-says : (p : ℕ → Bool) (n : ℕ) {P : ℕ → Type 0} → ((i : ℕ) → (p i ≡ true) ↔ P i) → (anyBelow p n ≡ true) ↔ ((i : ℕ) × (i < n) × P i)
+any-says p n s = (λ e. let x = any-at p n e in (x .0, x .1, s (x .0) .0 (x .2)), λ x. any-of p n (x .0) (x .1) (s (x .0) .1 (x .2)))
+
+pub any-in-says : {A : Type 0} (p : A → Bool) (xs : List A) {P : A → Type 0} → ((x : A) → (p x ≡ true) ↔ P x)
+    → (anyIn p xs ≡ true) ↔ ((x : A) × List·Memᴰ x xs × P x)
+any-in-says p xs s = (λ e. let x = any-in-at p xs e in (x .0, x .1, s (x .0) .0 (x .2)), λ x. any-in-of p xs (x .1) (s (x .0) .1 (x .2)))

@@ -41,7 +41,7 @@ begins-differ z earlier w p q hp hq e =
 -- ---- one committing event
 
 -- no place is live with the transaction
-abbrev Sealed : ℕ → List Record → Type 0
+abbrev pub Sealed : ℕ → List Record → Type 0
 Sealed t earlier = (p : ℕ) → seat earlier p .status ≡ 1 → seat earlier p .begin ≡ t → ⊥
 
 -- the kinds that commit
@@ -59,7 +59,7 @@ unfolding kind-starts
 commit-starts-nothing k e = ap kind-starts e
 
 -- what no place is live with stays so, past any record
-sealed-more : (t : ℕ) (r : Record) (earlier : List Record) → t ≤ length earlier → Sealed t earlier → Sealed t (r ∷ earlier)
+pub sealed-more : (t : ℕ) (r : Record) (earlier : List Record) → t ≤ length earlier → Sealed t earlier → Sealed t (r ∷ earlier)
 sealed-more t r earlier h known p =
     seat-by r earlier p (λ s. s .status ≡ 1 → s .begin ≡ t → ⊥) (λ other. known p) λ here.
     record {
@@ -111,10 +111,10 @@ module _ (z : Size) where
       sealed-more (e .who) r earlier below (sealed-after earlier (walks-earlier z r earlier w .0) k c))
       (event-cases r earlier m)
 
-  -- a record that commits is of no transaction that has committed before
-  commits-once : (r : Record) (earlier : List Record) {e : Event} → walks z (r ∷ earlier) ≡ true → List·Memᴰ e (events earlier)
-      → kind-commits (e .kind) ≡ true → kind-commits (r .kind) ≡ true → e .who ≡ whose earlier r → ⊥
-  commits-once r earlier {e} w m ce cr q =
+  -- no record is of a transaction that has committed before
+  pub commits-last : (r : Record) (earlier : List Record) {e : Event} → walks z (r ∷ earlier) ≡ true → List·Memᴰ e (events earlier)
+      → kind-commits (e .kind) ≡ true → e .who ≡ whose earlier r → ⊥
+  commits-last r earlier {e} w m ce q =
       split (kind-starts (r .kind))
       (λ k. omega (arith, whose-starts earlier r k, who-bound earlier m, number-bounds earlier m))
       (λ k. sealed-after earlier (v .0) m ce (r .place) (fits-live earlier r k (v .1) .0) (sym (whose-others earlier r k) ∙ sym q))
@@ -129,13 +129,12 @@ module _ (z : Size) where
   commits-unique [] w m n ce cf q = absurd (List·Memᴰ·not-nil m)
   commits-unique (r ∷ earlier) {e} {f} w m n ce cf q =
       ⊎-elim
-      (λ a. ⊎-elim (λ b. a ∙ sym b) (λ b. absurd (newer a b ce cf (sym q))) (event-cases r earlier n))
-      (λ a. ⊎-elim (λ b. absurd (newer b a cf ce q)) (λ b. commits-unique earlier (walks-earlier z r earlier w .0) a b ce cf q) (event-cases r earlier n))
+      (λ a. ⊎-elim (λ b. a ∙ sym b) (λ b. absurd (newer a b cf (sym q))) (event-cases r earlier n))
+      (λ a. ⊎-elim (λ b. absurd (newer b a ce q)) (λ b. commits-unique earlier (walks-earlier z r earlier w .0) a b ce cf q) (event-cases r earlier n))
       (event-cases r earlier m)
     where
-      newer : {x y : Event} → x ≡ event earlier r → List·Memᴰ y (events earlier) → kind-commits (x .kind) ≡ true → kind-commits (y .kind) ≡ true
-          → y .who ≡ x .who → ⊥
-      newer a b cx cy o = commits-once r earlier w b cy (rw a at cx) (rw a at o)
+      newer : {x y : Event} → x ≡ event earlier r → List·Memᴰ y (events earlier) → kind-commits (y .kind) ≡ true → y .who ≡ x .who → ⊥
+      newer a b c o = commits-last r earlier w b c (rw a at o)
 
 -- ---- the newest event that passes
 
@@ -224,15 +223,41 @@ module _ (day : List Record) (t : ℕ) where
       split (committed (events day) t) (λ c. rw c (latest-at-most commits-it day))
       (λ c. rw c (split (eqb read 0) (λ q. rw q h) (λ q. rw q (latest-at-most reads-it day))))
 
+-- ---- the committing event
+
+-- a committed transaction has its event, with the number of the commit; and an event that commits makes its transaction committed
+abbrev pub CommitEvent : List Event → ℕ → Type 0
+CommitEvent es k = (e : Event) × List·Memᴰ e es × (e .who ≡ k) × (kind-commits (e .kind) ≡ true) × (commit-of es k ≡ e .number)
+
+module _ (es : List Event) (k : ℕ) where
+  pub commit-event : committed es k ≡ true → CommitEvent es k
+  unfolding committed commit-of
+  commit-event h =
+      let x = latest-found (λ e. eqb (e .who) k && kind-commits (e .kind)) es h in
+      let e = x .0 in (
+        e,
+        x .1,
+        eqb-true (e .who) k (and-left (eqb (e .who) k) (kind-commits (e .kind)) (x .2)),
+        and-right (eqb (e .who) k) (kind-commits (e .kind)) (x .2),
+        x .3,
+      )
+
+  pub committed-by : {e : Event} → List·Memᴰ e es → e .who ≡ k → kind-commits (e .kind) ≡ true → committed es k ≡ true
+  unfolding committed
+  committed-by {e} m q c =
+      any-in-of (λ f. eqb (f .who) k && kind-commits (f .kind)) es m
+      (and-both (eqb (e .who) k) (kind-commits (e .kind)) (eq-eqb (e .who) k q) c)
+
+-- no record is of a transaction that has committed before it
+pub committed-ends : (z : Size) (r : Record) (earlier : List Record) (k : ℕ) → walks z (r ∷ earlier) ≡ true → committed (events earlier) k ≡ true
+    → whose earlier r ≡ k → ⊥
+committed-ends z r earlier k w h q =
+    let x = commit-event (events earlier) k h in
+    commits-last z r earlier w (x .1) (x .3) (x .2 ∙ sym q)
+
 -- the commit record is the number of the committing event
 pub commit-of-event : (z : Size) (day : List Record) {e : Event} → walks z day ≡ true → List·Memᴰ e (events day) → kind-commits (e .kind) ≡ true
     → commit-of (events day) (e .who) ≡ e .number
-unfolding commit-of
 commit-of-event z day {e} w m c =
-    let passes = commits-it day (e .who) in
-    let own-test = and-both (eqb (e .who) (e .who)) (kind-commits (e .kind)) (eq-eqb (e .who) (e .who) refl) c in
-    let x = latest-found passes (events day) (any-in-of passes (events day) m own-test) in
-    let f = x .0 in
-    let it-commits = and-right (eqb (f .who) (e .who)) (kind-commits (f .kind)) (x .2) in
-    let its-own = own day (e .who) (λ g. kind-commits (g .kind)) f (x .2) in
-    x .3 ∙ ap (λ g. g .number) (commits-unique z day w (x .1) m it-commits c its-own)
+    let x = commit-event (events day) (e .who) (committed-by (events day) (e .who) m refl c) in
+    x .4 ∙ ap (λ f. f .number) (commits-unique z day w (x .1) m (x .3) c (x .2))

@@ -7,13 +7,13 @@ ghost use Rattle.rules.specs.Books.{books-of};
 ghost use Rattle.rules.specs.State.{state-of, log-after};
 ghost use Rattle.rules.specs.Steps.{write-rule, read-rule};
 ghost use Rattle.recording.specs.Stepped.{step-of};
-use daylog::bytes;
 use granting::held;
 use judging::judged;
 use place::handle;
 use reasons::asked;
 use recording::Step;
 use recording::record;
+use records::bytes;
 use rules::Place;
 use rules::Size;
 

@@ -7,11 +7,11 @@ ghost use Rattle.rules.specs.Books.{books-of};
 ghost use Rattle.rules.specs.State.{state-of, log-after};
 ghost use Rattle.rules.specs.Steps.{begin-rule, post-rule};
 ghost use Rattle.recording.specs.Stepped.{step-of};
-use daylog::bytes;
 use granting::taken;
 use reasons::asked;
 use recording::Step;
 use recording::record;
+use records::bytes;
 use rules::Place;
 use rules::Size;
 

@@ -1,4 +1,5 @@
 pub mod Counting
+pub mod Fitting
 pub mod Putting
 pub mod Saying
 pub mod Spelling

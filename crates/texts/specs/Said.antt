@@ -14,6 +14,11 @@ unfoldable pub placed : List ℕ → ℕ → List (List ℕ) → List ℕ × ℕ
 placed out at [] = (out, at)
 placed out at (piece ∷ pieces) = placed (with-text out at piece) (after-text (length out) at (length piece)) pieces
 
+-- the bytes of pieces, one behind the other
+unfoldable pub joined : List (List ℕ) → List ℕ
+joined [] = []
+joined (piece ∷ pieces) = piece ++ joined pieces
+
 -- a number and a value, each after a space
 unfoldable pub then-number : ℕ → List (List ℕ)
 then-number n = text " " ∷ (digits 20 n ∷ [])

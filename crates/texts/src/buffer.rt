@@ -1,7 +1,7 @@
 // Text put together in a lent buffer, piece by piece. A piece that has no room is left out whole.
 ghost use mathlib.Core.Path.{_≡_};
 ghost use lib.ListN.{length, take};
-ghost use Rattle.basics.specs.Text.{digits};
+ghost use Rattle.basics.specs.Text.{digits, decimal};
 ghost use Rattle.texts.specs.Letters.{hex-text};
 ghost use Rattle.texts.specs.Placed.{after-text, with-text};
 use crate::hex;
@@ -44,6 +44,14 @@ pub fn put_number(out: &mut [u8], at: usize, n: u64) -> usize
     let text = spelled.text;
     let from = spelled.from;
     put(out, at, &text[from..])
+}
+
+// A number of 16 bits in decimal: five digits at most.
+pub fn put_decimal(out: &mut [u8], at: usize, n: u16) -> usize
+    ensures next { λ r. ⌜ r ≡ after-text (length (now (out .entry))) at (length (decimal n)) ⌝ }
+    ensures bytes { λ _. ⌜ now (out .exit) ≡ with-text (now (out .entry)) at (decimal n) ⌝ }
+{
+    put_number(out, at, n as u64)
 }
 
 // Bytes as hexadecimal digits.

@@ -1,0 +1,13 @@
+pub mod Answered
+pub mod Arrays
+pub mod Changed
+pub mod Followed
+pub mod Mirrored
+pub mod Overtaken
+pub mod Refused
+pub mod Replaying
+pub mod Results
+pub mod Stepwise
+pub mod Turns
+pub mod Unpacked
+pub mod Valued

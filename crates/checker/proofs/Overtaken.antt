@@ -1,0 +1,253 @@
+-- Who, listed later, comes to stand before a record's transaction: what is kept says what the day says, kind by kind. Assumes nothing.
+use Prim.Native.Nat.{ℕ, _<_}
+use mathlib.Core.Path.{_≡_, refl, sym, _∙_, ap, ap₂, subst}
+use mathlib.Core.Logic.{⊎-elim}
+use mathlib.Core.Bool.{Bool, true, false, not, _&&_, _||_, or-false}
+use mathlib.Core.List.{List, _∷_}
+use native.Mathlib.Omega.{arith}
+use lib.ListN.{length, getD}
+use lib.Dec.{ltb, eqb}
+use borrow.Author.Tests.{eqb-true, eq-eqb, ne-eqb}
+use Rattle.basics.specs.Below.{anyBelow}
+use Rattle.basics.specs.Lists.{anyIn}
+use Rattle.basics.proofs.Bools.{split, same-tests, and-left, and-right, and-both, and-fails-left, and-fails-right, or-true, or-left, or-right, or-fails}
+use Rattle.basics.proofs.Below.{any-at, any-of, any-fails, any-cong}
+use Rattle.basics.proofs.Lists.{any-in-fails}
+use Rattle.rules.specs.declared.Record.{Record}
+use Rattle.rules.specs.declared.Size.{Size}
+use Rattle.rules.specs.Daylog.{begin-kind, judged-read-kind, commit-kind, post-kind, kind-starts, kind-commits, kind-writes, kind-judged-read, kind-has-value, kind-has-cell}
+use Rattle.rules.specs.Layout.{walks}
+use Rattle.rules.specs.Day.{Event, whose, event, events, committed, wrote-cell}
+use Rattle.rules.proofs.InTime.{read-cell, committed-cell, arises}
+use Rattle.rules.proofs.Day.{number-bounds, who-bound, whose-starts}
+use Rattle.replay.specs.declared.state.Replay.{Replay}
+use Rattle.replay.specs.Listed.{position}
+use Rattle.replay.specs.Kept.{mark}
+use Rattle.replay.specs.Explained.{committed-later, used-later, any-used-later, overtaken}
+use Rattle.replay.proofs.Positions.{position-found}
+use Rattle.checker.proofs.Mirrored.{Mirrors, walks-fields, committed-told, wrote-told}
+
+-- ---- tests
+
+-- a test asked with one of two others
+and-or : (a b c : Bool) → a && (b || c) ≡ (a && b) || (a && c)
+and-or true b c = refl
+and-or false b c = refl
+
+-- some number passes one of two tests
+any-or : (p q : ℕ → Bool) (n : ℕ) → anyBelow (λ i. p i || q i) n ≡ anyBelow p n || anyBelow q n
+any-or p q n =
+    same-tests (anyBelow (λ i. p i || q i) n) (anyBelow p n || anyBelow q n)
+    (λ t.
+    let x = any-at (λ i. p i || q i) n t in
+    ⊎-elim (λ a. or-left (anyBelow p n) (anyBelow q n) (any-of p n (x .0) (x .1) a)) (λ b. or-right (anyBelow p n) (anyBelow q n) (any-of q n (x .0) (x .1) b))
+    (or-true (p (x .0)) (q (x .0)) (x .2)))
+    (λ t.
+    ⊎-elim (λ a. let x = any-at p n a in any-of (λ i. p i || q i) n (x .0) (x .1) (or-left (p (x .0)) (q (x .0)) (x .2)))
+    (λ b. let x = any-at q n b in any-of (λ i. p i || q i) n (x .0) (x .1) (or-right (p (x .0)) (q (x .0)) (x .2)))
+    (or-true (anyBelow p n) (anyBelow q n) t))
+
+-- the one number that is asked for passes
+any-only : (p : ℕ → Bool) (n c : ℕ) → c < n → anyBelow (λ d. eqb c d && p d) n ≡ p c
+any-only p n c h =
+    same-tests (anyBelow (λ d. eqb c d && p d) n) (p c)
+    (λ t.
+    let x = any-at (λ d. eqb c d && p d) n t in
+    let d = x .0 in
+    subst (λ (k : ℕ). p k ≡ true) (sym (eqb-true c d (and-left (eqb c d) (p d) (x .2)))) (and-right (eqb c d) (p d) (x .2)))
+    (λ t. any-of (λ d. eqb c d && p d) n c h (and-both (eqb c c) (p c) (eq-eqb c c refl) t))
+
+-- two searches may be made in either order
+exchange-of : (a b : ℕ → Bool) (p : ℕ → ℕ → Bool) (m n : ℕ) → anyBelow (λ i. a i && anyBelow (λ c. b c && p i c) n) m ≡ true
+    → anyBelow (λ c. b c && anyBelow (λ i. a i && p i c) m) n ≡ true
+exchange-of a b p m n t =
+    let x = any-at (λ i. a i && anyBelow (λ c. b c && p i c) n) m t in
+    let i = x .0 in
+    let y = any-at (λ c. b c && p i c) n (and-right (a i) (anyBelow (λ c. b c && p i c) n) (x .2)) in
+    let c = y .0 in
+    any-of (λ d. b d && anyBelow (λ j. a j && p j d) m) n c (y .1)
+    (and-both (b c) (anyBelow (λ j. a j && p j c) m) (and-left (b c) (p i c) (y .2))
+    (any-of (λ j. a j && p j c) m i (x .1)
+    (and-both (a i) (p i c) (and-left (a i) (anyBelow (λ d. b d && p i d) n) (x .2)) (and-right (b c) (p i c) (y .2)))))
+
+exchange : (a b : ℕ → Bool) (p : ℕ → ℕ → Bool) (m n : ℕ)
+    → anyBelow (λ i. a i && anyBelow (λ c. b c && p i c) n) m ≡ anyBelow (λ c. b c && anyBelow (λ i. a i && p i c) m) n
+exchange a b p m n =
+    same-tests (anyBelow (λ i. a i && anyBelow (λ c. b c && p i c) n) m) (anyBelow (λ c. b c && anyBelow (λ i. a i && p i c) m) n)
+    (exchange-of a b p m n) (exchange-of b a (λ c i. p i c) n m)
+
+-- ---- kinds
+
+-- what a kind does: start, read and be judged, commit
+abbrev Does : ℕ → Bool → Bool → Bool → Type 0
+Does k starts reads commits = (kind-starts k ≡ starts) × (kind-judged-read k ≡ reads) × (kind-commits k ≡ commits)
+
+module _ (k : ℕ) where
+  begin-does : k ≡ begin-kind → Does k true false false
+  unfolding kind-starts kind-judged-read kind-commits
+  begin-does q = (ap kind-starts q, ap kind-judged-read q, ap kind-commits q)
+
+  read-does : k ≡ judged-read-kind → Does k false true false
+  unfolding kind-starts kind-judged-read kind-commits
+  read-does q = (ap kind-starts q, ap kind-judged-read q, ap kind-commits q)
+
+  commit-does : k ≡ commit-kind → Does k false false true
+  unfolding kind-starts kind-judged-read kind-commits
+  commit-does q = (ap kind-starts q, ap kind-judged-read q, ap kind-commits q)
+
+  post-does : k ≡ post-kind → Does k true false true
+  unfolding kind-starts kind-judged-read kind-commits
+  post-does q = (ap kind-starts q, ap kind-judged-read q, ap kind-commits q)
+
+  others-do : eqb k judged-read-kind ≡ false → eqb k begin-kind ≡ false → eqb k commit-kind ≡ false → eqb k post-kind ≡ false → Does k false false false
+  unfolding kind-starts kind-judged-read kind-commits
+  others-do a b c d = (or-fails (eqb k begin-kind) (eqb k post-kind) b d, a, or-fails (eqb k commit-kind) (eqb k post-kind) c d)
+
+  -- a commit writes nothing, a post does, and it and a judged read have a cell
+  commit-writes : k ≡ commit-kind → kind-writes k ≡ false
+  unfolding kind-writes
+  commit-writes q = ap kind-writes q
+
+  post-writes : k ≡ post-kind → kind-writes k ≡ true
+  unfolding kind-writes
+  post-writes q = ap kind-writes q
+
+  post-cell : k ≡ post-kind → kind-has-cell k ≡ true
+  unfolding kind-has-cell kind-has-value
+  post-cell q = ap kind-has-cell q
+
+-- ---- what is kept, and what the day says
+
+module _ (z : Size) (t : ℕ) (order : List ℕ) (day : List Record) (s : Replay) (r : Record) (m : Mirrors z t order day s) (w : walks z (r ∷ day) ≡ true) where
+  -- the events, the record's event and its transaction, and where that stands
+  abbrev es : List Event
+  es = events day
+
+  abbrev who : ℕ
+  who = whose day r
+
+  abbrev at : ℕ
+  at = position order who
+
+  -- somebody listed later passes
+  abbrev any-later : (ℕ → Bool) → Bool
+  any-later p = anyBelow (λ i. ltb at i && p (getD order i 0)) (length order)
+
+  later-cong : (p q : ℕ → Bool) → ((k : ℕ) → p k ≡ q k) → any-later p ≡ any-later q
+  later-cong p q h =
+      any-cong (λ i. ltb at i && p (getD order i 0)) (λ i. ltb at i && q (getD order i 0)) (length order) (λ i b. ap (λ x. ltb at i && x) (h (getD order i 0)))
+
+  -- who has committed, and who has used a cell
+  committed-kept : (i : ℕ) → i < length order → not (eqb (getD (s .commit) i 0) 0) ≡ committed es (getD order i 0)
+  committed-kept i h = ap (λ n. not (eqb n 0)) (m .commits i h) ∙ sym (committed-told day (getD order i 0))
+
+  wrote-kept : (i c : ℕ) → i < length order → c < z .cells → not (eqb (getD (s .wrote) (mark i c) 0) 0) ≡ wrote-cell es (getD order i 0) c
+  wrote-kept i c h k = ap (λ n. not (eqb n 0)) (m .writes i c h k) ∙ sym (wrote-told day (getD order i 0) c)
+
+  committed-later-told : committed-later s at (length order) ≡ any-later (committed es)
+  unfolding committed-later
+  committed-later-told =
+      any-cong (λ i. ltb at i && not (eqb (getD (s .commit) i 0) 0)) (λ i. ltb at i && committed es (getD order i 0)) (length order)
+      (λ i h. ap (λ b. ltb at i && b) (committed-kept i h))
+
+  -- somebody used the cell
+  abbrev used : ℕ → ℕ → Bool
+  used c k = committed-cell es k c || read-cell es k c
+
+  module _ (c : ℕ) (k : c < z .cells) where
+    used-kept : (reads : Bool) → used-later s c at (length order) reads ≡ any-later (λ j. committed-cell es j c || (reads && read-cell es j c))
+    unfolding used-later committed-cell
+    used-kept reads =
+        any-cong _ (λ i. ltb at i && (committed-cell es (getD order i 0) c || (reads && read-cell es (getD order i 0) c))) (length order)
+        (λ i h. rw (committed-kept i h, wrote-kept i c h k, m .reads i c h k))
+
+    pub written-later-told : used-later s c at (length order) false ≡ any-later (λ j. committed-cell es j c)
+    written-later-told = used-kept false ∙ later-cong (λ j. committed-cell es j c || false) (λ j. committed-cell es j c) (λ j. or-false (committed-cell es j c))
+
+    used-later-told : used-later s c at (length order) true ≡ any-later (used c)
+    used-later-told = used-kept true
+
+  -- ---- who comes to stand before the record's transaction
+
+  -- the one that arises with it, by what its kind does
+  arises-as : {a b c : Bool} → Does (r .kind) a b c → (k : ℕ)
+      → arises z es (event day r) k
+      ≡ (a && committed es k) || ((b && committed-cell es k (r .cell)) || (c && anyBelow (λ d. wrote-cell (events (r ∷ day)) who d && used d k) (z .cells)))
+  unfolding arises event events
+  arises-as f k = rw (f .0, f .1, f .2)
+
+  -- the cells that its transaction has written with it
+  wrote-own : (c : ℕ) → wrote-cell (events (r ∷ day)) who c ≡ (kind-writes (r .kind) && eqb (r .cell) c) || wrote-cell es who c
+  unfolding wrote-cell anyIn events event
+  wrote-own c = rw (eq-eqb who who refl)
+
+  wrote-none : kind-starts (r .kind) ≡ true → (c : ℕ) → wrote-cell es who c ≡ false
+  unfolding wrote-cell
+  wrote-none k c =
+      any-in-fails (λ e. eqb (e .who) who && (kind-writes (e .kind) && eqb (e .cell) c)) es
+      (λ e i. and-fails-left (eqb (e .who) who) _ (ne-eqb (e .who) who (λ q. omega (arith, who-bound day i, number-bounds day i, whose-starts day r k))))
+
+  wrote-commit : r .kind ≡ commit-kind → (c : ℕ) → wrote-cell (events (r ∷ day)) who c ≡ wrote-cell es who c
+  wrote-commit q c = rw (wrote-own c, commit-writes (r .kind) q)
+
+  wrote-post : r .kind ≡ post-kind → (c : ℕ) → wrote-cell (events (r ∷ day)) who c ≡ eqb (r .cell) c
+  wrote-post q c = rw (wrote-own c, post-writes (r .kind) q, wrote-none (post-does (r .kind) q .0) c) (or-false (eqb (r .cell) c))
+
+  -- a judged read, and a kind that neither starts, reads nor commits
+  pub read-arises : r .kind ≡ judged-read-kind → any-later (arises z es (event day r)) ≡ any-later (λ k. committed-cell es k (r .cell))
+  read-arises q =
+      later-cong (arises z es (event day r)) (λ k. committed-cell es k (r .cell))
+      (λ k. arises-as (read-does (r .kind) q) k ∙ or-false (committed-cell es k (r .cell)))
+
+  pub none-arises : Does (r .kind) false false false → any-later (arises z es (event day r)) ≡ false
+  none-arises f =
+      any-fails (λ i. ltb at i && arises z es (event day r) (getD order i 0)) (length order)
+      (λ i h. ap (λ b. ltb at i && b) (arises-as f (getD order i 0)) ∙ and-fails-right (ltb at i) false refl)
+
+  -- a begin
+  begin-told : r .kind ≡ begin-kind → committed-later s at (length order) ≡ any-later (arises z es (event day r))
+  begin-told q =
+      committed-later-told
+      ∙ sym (later-cong (arises z es (event day r)) (committed es) (λ k. arises-as (begin-does (r .kind) q) k ∙ or-false (committed es k)))
+
+  -- a commit
+  commit-told : at < length order → r .kind ≡ commit-kind → any-used-later z s at (length order) ≡ any-later (arises z es (event day r))
+  unfolding any-used-later
+  commit-told l q =
+      any-cong (λ c. not (eqb (getD (s .wrote) (mark at c) 0) 0) && used-later s c at (length order) true) (λ c. wrote-cell es who c && any-later (used c)) (z .cells)
+      (λ c h. ap₂ _&&_ (wrote-kept at c l h ∙ ap (λ k. wrote-cell es k c) (position-found order who l)) (used-later-told c h))
+      ∙ sym (exchange (ltb at) (wrote-cell es who) (λ i c. used c (getD order i 0)) (length order) (z .cells))
+      ∙ sym
+      (later-cong (arises z es (event day r)) (λ k. anyBelow (λ c. wrote-cell es who c && used c k) (z .cells)) (λ k.
+      arises-as (commit-does (r .kind) q) k
+      ∙ any-cong (λ c. wrote-cell (events (r ∷ day)) who c && used c k) (λ c. wrote-cell es who c && used c k) (z .cells)
+      (λ c h. ap (λ b. b && used c k) (wrote-commit q c))))
+
+  -- a post
+  post-told : r .kind ≡ post-kind
+      → committed-later s at (length order) || used-later s (r .cell) at (length order) true ≡ any-later (arises z es (event day r))
+  post-told q =
+      let c = r .cell in
+      let known = walks-fields z r day w .cell-known (post-cell (r .kind) q) in
+      ap₂ _||_ committed-later-told (used-later-told c known)
+      ∙ sym (any-or (λ i. ltb at i && committed es (getD order i 0)) (λ i. ltb at i && used c (getD order i 0)) (length order))
+      ∙ any-cong _ (λ i. ltb at i && (committed es (getD order i 0) || used c (getD order i 0))) (length order)
+      (λ i h. sym (and-or (ltb at i) (committed es (getD order i 0)) (used c (getD order i 0))))
+      ∙ sym
+      (later-cong (arises z es (event day r)) (λ k. committed es k || used c k) (λ k.
+      arises-as (post-does (r .kind) q) k
+      ∙ ap (λ b. committed es k || b)
+      (any-cong (λ d. wrote-cell (events (r ∷ day)) who d && used d k) (λ d. eqb c d && used d k) (z .cells)
+      (λ d h. ap (λ b. b && used d k) (wrote-post q d))
+      ∙ any-only (λ d. used d k) (z .cells) c known)))
+
+  -- any kind but a judged read
+  pub overtaken-told : at < length order → eqb (r .kind) judged-read-kind ≡ false
+      → overtaken z s (r .kind) (r .cell) at (length order) ≡ any-later (arises z es (event day r))
+  unfolding overtaken
+  overtaken-told l n =
+      let k = r .kind in
+      split (eqb k begin-kind) (λ e. rw e (begin-told (eqb-true k begin-kind e))) λ a.
+      split (eqb k commit-kind) (λ e. rw (a, e) (commit-told l (eqb-true k commit-kind e))) λ b.
+      split (eqb k post-kind) (λ e. rw (a, b, e) (post-told (eqb-true k post-kind e))) λ c.
+      rw (a, b, c) (sym (none-arises (others-do k n a b c)))

@@ -1,0 +1,124 @@
+-- `checker::order::is_replayed` meets its contract. The loop's invariant: what is kept mirrors the first n records, and each of them is
+-- explained. Assumes nothing.
+use Prim.Native.Nat.{ℕ, _-_, _≤_}
+use mathlib.Core.Path.{_≡_, sym, _∙_, subst}
+use mathlib.Core.Logic.{⊎-elim}
+use native.Mathlib.Omega.{arith}
+use borrow.Author.Needs.{needs}
+use borrow.Author.Tests.{not-true, not-false}
+use Rattle.checker.proofs.Turns.{Turn, turn-none, entry-place, entry-cell, past-only, turn-on, turn-fails, turn-ends}
+use Rattle.checker.proofs.order.is_replayed.Statement.{statement}
+use Rattle.checker.proofs.order.is_replayed.Tie as tie
+
+abbrev Inv-loop : tie.InvT-loop
+Inv-loop opening log records t list z kept₀ n₀ kept n = (n ≤ records) × Turn z opening log t list n kept
+
+abbrev μ-loop : tie.MeasureT-loop
+μ-loop opening log records t list z kept₀ n₀ kept n = records - n
+
+fresh-requires : tie.Need-fresh-requires Inv-loop μ-loop
+fresh-requires c κs = search needs
+
+loop-holds : tie.Need-loop-holds Inv-loop μ-loop
+loop-holds c =
+    let a = c .before .before .before .before .args in
+    (omega arith, rw (c .fresh .ensures) (turn-none (a .z) (a .opening .now) (a .log .now) (a .t) (a .list .now)))
+
+record-at-requires : tie.Need-record-at-requires Inv-loop μ-loop
+record-at-requires c κs = omega (arith, c .before .before .before .before .before .before .pre .1 .0 .0)
+
+add-n : tie.Need-add-n Inv-loop μ-loop
+add-n c = search needs
+
+whose-requires : tie.Need-whose-requires Inv-loop μ-loop
+whose-requires c κs =
+    let a = c .before .before .before .before .before .before .before .args in
+    let pre = c .before .before .before .before .before .before .before .pre in
+    let turn = c .before .before .loop in
+    entry-place (a .z) (a .opening .now) (a .log .now) (a .t) (a .list .now) (a .records) (pre .0) (pre .1 .0 .1) (pre .1 .1 .1 .0 .0) (pre .1 .1 .0 .1) (turn .n) (turn .kept) (omega arith) (turn .inv .1) (c .record-at .result) (c .record-at .ensures)
+
+position-requires : tie.Need-position-requires Inv-loop μ-loop
+position-requires c κs = search needs
+
+is-explained-requires : tie.Need-is-explained-requires Inv-loop μ-loop
+is-explained-requires c κs =
+    let a = c .before .before .before .before .before .before .before .before .before .before .args in
+    let pre = c .before .before .before .before .before .before .before .before .before .before .pre in
+    let turn = c .before .before .before .before .before .loop in
+    let read = c .before .before .before .record-at in
+    let past = past-only (a .z) (a .opening .now) (a .log .now) (a .t) (a .list .now) (a .records) (pre .0) (pre .1 .0 .1) (pre .1 .1 .1 .0 .0) (pre .1 .1 .0 .1) (turn .n) (turn .kept) (omega arith) (turn .inv .1) in
+    let cell = entry-cell (a .z) (a .opening .now) (a .log .now) (a .t) (a .list .now) (a .records) (pre .0) (pre .1 .0 .1) (pre .1 .1 .1 .0 .0) (pre .1 .1 .0 .1) (turn .n) (turn .kept) (omega arith) (turn .inv .1) (read .result) (read .ensures) in
+    (pre .0, (past, ((omega arith, (omega (arith, pre .1 .0 .0), pre .1 .1 .0 .0)), (cell, (c .if1 .taken, pre .1 .1 .0 .1)))))
+
+returns : tie.Need-returns Inv-loop μ-loop
+returns c =
+    let a = c .before .before .before .before .before .before .before .before .before .before .before .before .args in
+    let pre = c .before .before .before .before .before .before .before .before .before .before .before .before .pre in
+    let turn = c .before .before .before .before .before .before .before .loop in
+    let read = c .before .before .before .before .before .record-at in
+    let whose = c .before .before .before .before .whose in
+    let there = c .before .before .before .position in
+    sym
+    (turn-fails (a .z) (a .opening .now) (a .log .now) (a .t) (a .list .now) (a .records) (pre .0) (pre .1 .0 .1) (pre .1 .1 .1 .0 .0) (pre .1 .1 .0 .1) (turn .n) (turn .kept) (omega arith) (turn .inv .1) (pre .1 .1 .1 .1) (pre .1 .1 .1 .0 .1) (read .result) (read .ensures) (whose .result) (there .result)
+    (whose .ensures) (there .ensures) (c .before .before .if1 .taken) (sym (c .before .is-explained .ensures) ∙ not-true _ (c .if2 .taken)))
+
+follow-requires : tie.Need-follow-requires Inv-loop μ-loop
+follow-requires c κs =
+    let a = c .before .before .before .before .before .before .before .before .before .before .args in
+    let pre = c .before .before .before .before .before .before .before .before .before .before .pre in
+    let turn = c .before .before .before .before .before .loop in
+    let read = c .before .before .before .record-at in
+    let cell = entry-cell (a .z) (a .opening .now) (a .log .now) (a .t) (a .list .now) (a .records) (pre .0) (pre .1 .0 .1) (pre .1 .1 .1 .0 .0) (pre .1 .1 .0 .1) (turn .n) (turn .kept) (omega arith) (turn .inv .1) (read .result) (read .ensures) in
+    (pre .0, (pre .1 .1 .0 .1, (entry-place (a .z) (a .opening .now) (a .log .now) (a .t) (a .list .now) (a .records) (pre .0) (pre .1 .0 .1) (pre .1 .1 .1 .0 .0) (pre .1 .1 .0 .1) (turn .n) (turn .kept) (omega arith) (turn .inv .1) (read .result) (read .ensures), cell .within)))
+
+loop-less : tie.Need-loop-less Inv-loop μ-loop
+loop-less c = search needs
+
+loop-again : tie.Need-loop-again Inv-loop μ-loop
+loop-again c =
+    let a = c .before .before .before .before .before .before .before .before .before .before .before .args in
+    let pre = c .before .before .before .before .before .before .before .before .before .before .before .pre in
+    let turn = c .before .before .before .before .before .before .loop in
+    let read = c .before .before .before .before .record-at in
+    let whose = c .before .before .before .whose in
+    let there = c .before .before .position in (
+      omega arith,
+      rw (c .follow .ensures)
+          (turn-on (a .z) (a .opening .now) (a .log .now) (a .t) (a .list .now) (a .records) (pre .0) (pre .1 .0 .1) (pre .1 .1 .1 .0 .0) (pre .1 .1 .0 .1) (turn .n) (turn .kept) (omega arith) (turn .inv .1) (pre .1 .1 .1 .0 .1) (read .result) (read .ensures) (whose .result) (there .result) (whose .ensures)
+          (there .ensures)
+          (⊎-elim (λ w h. sym (w .1 .ensures) ∙ not-false _ (w .2 .left)) (λ w h. absurd (omega (arith, w .left))) (c .before .if1 .came))),
+    )
+
+is-in-time-requires : tie.Need-is-in-time-requires Inv-loop μ-loop
+is-in-time-requires c κs = c .before .before .before .before .before .before .pre .1 .1 .0 .1
+
+returns-2 : tie.Need-returns-2 Inv-loop μ-loop
+returns-2 c =
+    let a = c .before .before .before .before .before .before .before .args in
+    let pre = c .before .before .before .before .before .before .before .pre in
+    let end = c .before .before .loop in
+    let all : end .n ≡ a .records = omega arith in
+    c .is-in-time .ensures
+    ∙ turn-ends (a .z) (a .opening .now) (a .log .now) (a .t) (a .list .now) (a .records) (pre .0) (pre .1 .0 .1) (pre .1 .1 .1 .0 .0) (pre .1 .1 .0 .1)
+    (end .kept) (pre .1 .1 .1 .1) (pre .1 .1 .1 .0 .1)
+    (subst (λ (i : ℕ). Turn (a .z) (a .opening .now) (a .log .now) (a .t) (a .list .now) i (end .kept)) all (end .inv .1))
+
+pub is-replayed-spec : {M : Type 1} → statement M
+is-replayed-spec =
+    tie.close
+    (tie.spec
+    Inv-loop
+    μ-loop
+    fresh-requires
+    loop-holds
+    record-at-requires
+    add-n
+    whose-requires
+    position-requires
+    is-explained-requires
+    returns
+    follow-requires
+    loop-less
+    loop-again
+    is-in-time-requires
+    returns-2)

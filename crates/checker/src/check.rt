@@ -1,0 +1,45 @@
+// The order checker's numbers: 1, 10, 11, 12 or 0.
+ghost use mathlib.Core.Path.{_≡_};
+ghost use Rattle.rules.specs.Sizes.{Within, yard};
+ghost use Rattle.rules.specs.Checker.{checked};
+use crate::order;
+use daylog::layout;
+use readback::entry;
+use rules::Size;
+
+// The answer for any number of places and cells.
+fn sized(opening: &[u8], log: &[u8], begin: u32, list: &[u16], z: Size) -> u8
+    requires { ⌜ Within z ⌝ }
+    ensures { λ r. ⌜ r ≡ checked z (now (opening .entry)) (now (log .entry)) begin (now (list .entry)) ⌝ }
+{
+    if opening.len() != 8 * z.cells {
+        return 1;
+    }
+    if !layout::is_right(log, z) {
+        return 10;
+    }
+    if !entry::is_start(log, begin) {
+        return 11;
+    }
+    if !order::is_accepted(opening, log, begin as u16, list, z) {
+        return 12;
+    }
+    0
+}
+
+// 1 if the opening table has a wrong length, 10 if the log is badly laid out, 11 if the record is no begin or post, 12 if the list is not
+// accepted, else 0.
+pub fn checked(opening: &[u8], log: &[u8], begin: u32, list: &[u16]) -> u8
+    ensures { λ r. ⌜ r ≡ checked yard (now (opening .entry)) (now (log .entry)) begin (now (list .entry)) ⌝ }
+{
+    sized(
+        opening,
+        log,
+        begin,
+        list,
+        Size {
+            places: 32,
+            cells: 32,
+        },
+    )
+}

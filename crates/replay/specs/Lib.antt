@@ -1,0 +1,3 @@
+pub mod Explained
+pub mod Kept
+pub mod Listed

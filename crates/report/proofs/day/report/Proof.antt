@@ -1,0 +1,55 @@
+-- `report::day::report` meets its contract: less than an opening table is refused, and what follows one is the log. Assumes nothing.
+use mathlib.Core.Path.{refl, _∙_, ap}
+use native.Mathlib.Omega.{arith}
+use lib.ListN.{length}
+use denote.Ref.{now}
+use borrow.Author.Needs.{needs}
+use Rattle.rules.specs.Sizes.{yard}
+use Rattle.texts.proofs.Putting.{tail-is}
+use Rattle.report.specs.Told.{reported}
+use Rattle.report.proofs.Reporting.{report-short, report-whole}
+use Rattle.report.proofs.day.report.Statement.{statement}
+use Rattle.report.proofs.day.report.Tie as tie
+
+refused-requires : tie.Need-refused-requires
+refused-requires c κs = search needs
+
+same-length : tie.Need-same-length
+same-length c = search needs
+
+returns : tie.Need-returns
+returns c = c .before .before .refused .ensures ∙ report-short yard (now (c .before .before .before .before .before .before .before .args .input)) (omega arith)
+
+sub-of-log : tie.Need-sub-of-log
+sub-of-log c = search needs
+
+part-of-log-start : tie.Need-part-of-log-start
+part-of-log-start c = search needs
+
+part-of-log-end : tie.Need-part-of-log-end
+part-of-log-end c = search needs
+
+of-log-requires : tie.Need-of-log-requires
+of-log-requires c κs = search needs
+
+same-length-2 : tie.Need-same-length-2
+same-length-2 c = search needs
+
+returns-2 : tie.Need-returns-2
+returns-2 c =
+    let input = now (c .before .before .before .before .before .before .before .before .args .input) in
+    c .before .before .of-log .ensures ∙ ap (reported yard) (tail-is input 256 (length input) refl) ∙ report-whole yard input (omega arith)
+
+pub report-spec : {M : Type 1} → statement M
+report-spec =
+    tie.close
+    (tie.spec
+    refused-requires
+    same-length
+    returns
+    sub-of-log
+    part-of-log-start
+    part-of-log-end
+    of-log-requires
+    same-length-2
+    returns-2)
