@@ -6,7 +6,7 @@ ghost use Rattle.rules.specs.Sizes.{yard};
 ghost use Rattle.rules.specs.Checker.{checked};
 ghost use Rattle.accept.specs.Listed.{Roomy, answer-line};
 use crate::list::Numbers;
-use checker::check;
+use checker::proposal;
 use texts::buffer;
 use texts::refusal;
 
@@ -17,7 +17,7 @@ fn of_day(input: &[u8], begin: u32, order: &[u16]) -> u8
     if input.len() < 256 {
         return 1;
     }
-    check::checked(&input[..256], &input[256..], begin, order)
+    proposal::checked(&input[..256], &input[256..], begin, order)
 }
 
 // The same for the numbers that are kept.

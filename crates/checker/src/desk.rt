@@ -4,7 +4,7 @@ ghost use Prim.Native.Nat.{_*_, _≤_};
 ghost use lib.ListN.{length, take};
 ghost use Rattle.rules.specs.Sizes.{yard};
 ghost use Rattle.checker.specs.Desk.{pairs-of, checked-pairs};
-use crate::check;
+use crate::proposal;
 use records::bytes;
 
 // The numbers of the first pairs of bytes, as many as the lent list has room for.
@@ -33,5 +33,5 @@ pub extern "C" fn nogturshan_check(opening: &[u8], log: &[u8], begin: u32, list:
     let all = list.len() / 2;
     let count = if all < 33 { all } else { 33 };
     unpack(list, &mut numbers[..count]);
-    check::checked(opening, log, begin, &numbers[..count])
+    proposal::checked(opening, log, begin, &numbers[..count])
 }

@@ -1,4 +1,4 @@
--- `checker::check::sized` meets its contract: the tests come in the order of the numbers. A begin record of a well laid out log has 16 bits.
+-- `checker::proposal::sized` meets its contract: the tests come in the order of the numbers. A begin record of a well laid out log has 16 bits.
 -- Assumes nothing.
 use mathlib.Core.Path.{sym, _∙_}
 use native.Mathlib.Omega.{arith}
@@ -6,8 +6,8 @@ use denote.Ref.{now}
 use borrow.Author.Needs.{needs}
 use borrow.Author.Tests.{not-true, not-false}
 use Rattle.checker.proofs.Answered.{answered-lent, answered-badly, answered-unknown, answered-not, answered-accepted, begin-small}
-use Rattle.checker.proofs.check.sized.Statement.{statement}
-use Rattle.checker.proofs.check.sized.Tie as tie
+use Rattle.checker.proofs.proposal.sized.Statement.{statement}
+use Rattle.checker.proofs.proposal.sized.Tie as tie
 
 mul-if1 : tie.Need-mul-if1
 mul-if1 c = search needs
