@@ -24,7 +24,7 @@ use Rattle.rules.proofs.LaidOut.{fields-says}
 use Rattle.rules.proofs.Commits.{latest-zero, latest-some}
 use Rattle.replay.specs.declared.state.Replay.{Replay}
 use Rattle.replay.specs.Kept.{mark, fresh, whose-kept}
-use Rattle.replay.specs.Explained.{PastOnly}
+use Rattle.explains.specs.Explained.{PastOnly}
 
 -- the record of k's latest write of the cell, 0 for none
 unfoldable pub latest-write : List Event → ℕ → ℕ → ℕ

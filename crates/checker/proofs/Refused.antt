@@ -2,7 +2,7 @@
 -- answers all that are too long alike. Assumes nothing.
 use Prim.Native.Nat.{ℕ, _<_}
 use mathlib.Core.Path.{_≡_, sym, _∙_}
-use mathlib.Core.Bool.{true, false, not, cond}
+use mathlib.Core.Bool.{true, false}
 use mathlib.Core.List.{List}
 use lib.ListN.{length, getD}
 use lib.Dec.{eqb}
@@ -13,15 +13,15 @@ use Rattle.basics.proofs.Bools.{split, false-of-not, and-left, and-fails-left, 
 use Rattle.basics.proofs.Search.{least-at-most}
 use Rattle.rules.specs.declared.Size.{Size}
 use Rattle.rules.specs.Daylog.{records-in, day-of}
-use Rattle.rules.specs.Layout.{walks, well-laid-out}
-use Rattle.rules.specs.Day.{events, is-transaction}
+use Rattle.rules.specs.Layout.{well-laid-out}
+use Rattle.rules.specs.Day.{is-transaction}
 use Rattle.rules.specs.Checker.{lists-company, accepted, log-events, checked}
 use Rattle.rules.specs.Numbers.{first-reason}
 use Rattle.rules.proofs.LaidOut.{laid-out-has}
 use Rattle.rules.proofs.CompanyInTime.{company-told}
 use Rattle.rules.proofs.FewInCompany.{company-few}
-use Rattle.replay.specs.Listed.{position}
-use Rattle.replay.proofs.Positions.{position-member}
+use Rattle.explains.specs.Listed.{position}
+use Rattle.explains.proofs.Positions.{position-member}
 
 module _ (z : Size) (opening log : List ℕ) (t : ℕ) where
   -- it is not accepted

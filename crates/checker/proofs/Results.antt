@@ -1,7 +1,6 @@
 -- Two results that meet a promise of the checker are equal, and its answer says whether the list is accepted. Rests on `layout-says` of the rules.
 use Prim.Native.Nat.{ℕ}
 use mathlib.Core.Path.{_≡_, sym, _∙_}
-use mathlib.Core.Bool.{true, false}
 use mathlib.Core.List.{List}
 use native.Mathlib.Omega.{arith}
 use lib.ListN.{length}

@@ -2,7 +2,7 @@
 -- of the log, settles acceptance. Assumes nothing.
 use Prim.Native.Nat.{ℕ, suc, _+_, _≤_, _<_}
 use mathlib.Core.Path.{_≡_, refl, sym, _∙_, ap, subst}
-use mathlib.Core.Bool.{Bool, true, false}
+use mathlib.Core.Bool.{true, false}
 use mathlib.Core.List.{List, _∷_}
 use native.Mathlib.Decide.{decLt}
 use native.Mathlib.Numerals.{add-one}
@@ -22,11 +22,11 @@ use Rattle.rules.proofs.InTime.{step-right, replays}
 use Rattle.rules.proofs.Daylog.{length-day-of}
 use Rattle.replay.specs.declared.state.Replay.{Replay}
 use Rattle.replay.specs.Kept.{fresh, whose-kept, followed}
-use Rattle.replay.specs.Listed.{position, all-in-time}
-use Rattle.replay.specs.Explained.{PastOnly, CellRight, explained}
+use Rattle.explains.specs.Listed.{position, all-in-time}
+use Rattle.explains.specs.Explained.{PastOnly, CellRight, explained}
 use Rattle.checker.proofs.Mirrored.{Mirrors, mirrors-fresh, whose-mirrored}
 use Rattle.checker.proofs.Followed.{mirrors-more}
-use Rattle.replay.proofs.Positions.{position-member}
+use Rattle.explains.proofs.Positions.{position-member}
 use Rattle.checker.proofs.Replaying.{explained-says, unlisted-right, in-time-says, cell-right, place-within}
 use Rattle.checker.proofs.Stepwise.{walks-first, replays-on, accepted-not, accepted-end}
 

@@ -26,7 +26,7 @@ use Rattle.rules.proofs.LivePlaces.{wrote-says}
 use Rattle.rules.proofs.LaidOut.{fits-says}
 use Rattle.rules.proofs.Day.{event-cases, whose-starts, whose-others}
 use Rattle.rules.proofs.Daylog.{length-day-of}
-use Rattle.replay.specs.Explained.{value-at, source}
+use Rattle.explains.specs.Explained.{value-at, source}
 use Rattle.checker.proofs.Mirrored.{latest-write, table-record, wrote-told}
 
 -- ---- a record's bytes

@@ -9,10 +9,10 @@ ghost use Rattle.rules.specs.Daylog.{day-of};
 ghost use Rattle.rules.specs.Layout.{walks, well-laid-out};
 ghost use Rattle.rules.specs.Day.{events, is-transaction};
 ghost use Rattle.rules.specs.Checker.{accepted, log-events};
+use explains::company;
+use explains::explain;
+use explains::lists;
 use records::reader;
-use replay::company;
-use replay::explain;
-use replay::lists;
 use replay::state;
 use rules::Size;
 

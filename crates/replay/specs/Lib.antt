@@ -1,3 +1,1 @@
-pub mod Explained
 pub mod Kept
-pub mod Listed

@@ -3,13 +3,12 @@ use Prim.Native.Nat.{ℕ, _/_}
 use mathlib.Core.Path.{sym, _∙_, ap}
 use mathlib.Core.Logic.{inl, inr, ⊎-elim}
 use native.Mathlib.Omega.{arith}
-use lib.ListN.{length, take, replicate}
+use lib.ListN.{length, replicate}
 use lib.Seq.{length-take-le}
 use denote.Ref.{now}
 use borrow.Author.Needs.{needs}
 use Rattle.rules.specs.Sizes.{yard}
 use Rattle.rules.specs.Checker.{checked}
-use Rattle.checker.specs.Desk.{pairs-of}
 use Rattle.checker.proofs.Unpacked.{Counted, counted-most, counted-within, front-taken, front-room, front-read, counted-alike, odd-refused}
 use Rattle.checker.proofs.desk.nogturshan_check.Statement.{statement}
 use Rattle.checker.proofs.desk.nogturshan_check.Tie as tie

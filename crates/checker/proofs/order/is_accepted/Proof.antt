@@ -1,6 +1,5 @@
 -- `checker::order::is_accepted` meets its contract: a list that is too long, has repeats or lacks t is refused, and the replay settles the
 -- others. Assumes nothing.
-use Prim.Native.Nat.{ℕ}
 use mathlib.Core.Path.{sym, _∙_}
 use native.Mathlib.Omega.{arith}
 use denote.Ref.{now}

@@ -1,0 +1,67 @@
+-- Whether a record is overtaken or explained, case by case. Assumes nothing.
+use Prim.Native.Nat.{ℕ}
+use mathlib.Core.Path.{_≡_, sym, _∙_, ap}
+use mathlib.Core.Bool.{Bool, true, false, not, _&&_, _||_}
+use mathlib.Core.List.{List}
+use borrow.Author.Tests.{eq-eqb, ne-eqb}
+use Rattle.basics.proofs.Bools.{cond-passes, cond-fails}
+use Rattle.rules.specs.declared.Record.{Record}
+use Rattle.rules.specs.declared.Size.{Size}
+use Rattle.rules.specs.Day.{sets-moment}
+use Rattle.replay.specs.declared.state.Replay.{Replay}
+use Rattle.explains.specs.Explained.{committed-later, used-later, any-used-later, overtaken, read-explained, own-explained, explained}
+
+module _ (z : Size) (s : Replay) (kind c at count : ℕ) where
+  -- by kind: a begin, a commit, a post, another
+  pub begin-overtaken : kind ≡ 1 → committed-later s at count ≡ overtaken z s kind c at count
+  unfolding overtaken
+  begin-overtaken e = sym (cond-passes _ _ (eq-eqb kind 1 e))
+
+  module _ (not-begin : kind ≡ 1 → ⊥) where
+    pub commit-overtaken : kind ≡ 5 → any-used-later z s at count ≡ overtaken z s kind c at count
+    unfolding overtaken
+    commit-overtaken e = sym (cond-fails _ _ (ne-eqb kind 1 not-begin) ∙ cond-passes _ _ (eq-eqb kind 5 e))
+
+    module _ (not-commit : kind ≡ 5 → ⊥) where
+      pub post-overtaken : kind ≡ 9 → committed-later s at count || used-later s c at count true ≡ overtaken z s kind c at count
+      unfolding overtaken
+      post-overtaken e =
+          sym
+          (cond-fails _ _ (ne-eqb kind 1 not-begin)
+          ∙ cond-fails _ _ (ne-eqb kind 5 not-commit)
+          ∙ cond-passes _ _ (eq-eqb kind 9 e))
+
+      pub other-overtaken : (kind ≡ 9 → ⊥) → false ≡ overtaken z s kind c at count
+      unfolding overtaken
+      other-overtaken not-post =
+          sym
+          (cond-fails _ _ (ne-eqb kind 1 not-begin)
+          ∙ cond-fails _ _ (ne-eqb kind 5 not-commit)
+          ∙ cond-fails _ _ (ne-eqb kind 9 not-post))
+
+module _ (z : Size) (opening log : List ℕ) (s : Replay) (r : Record) (n at count : ℕ) (named : Bool) {sets : Bool} (e : sets ≡ sets-moment (r .kind)) where
+  -- as the answer about the kind says
+  answered : {b : Bool} → (named && sets) && s .stranger ≡ b → (named && sets-moment (r .kind)) && s .stranger ≡ b
+  answered late = ap (λ a. (named && a) && s .stranger) (sym e) ∙ late
+
+  -- a stranger committed, and the record sets the named transaction's moment
+  pub late-explained : (named && sets) && s .stranger ≡ true → false ≡ explained z opening log s r n at count named
+  unfolding explained
+  late-explained late = rw (answered late)
+
+  -- else, by kind: a judged read, an own read, another
+  module _ (in-time : (named && sets) && s .stranger ≡ false) where
+    pub judged-explained : r .kind ≡ 2 → read-explained opening log s (r .cell) n at count ≡ explained z opening log s r n at count named
+    unfolding explained
+    judged-explained judged = rw (answered in-time) (sym (cond-passes _ _ (eq-eqb (r .kind) 2 judged)))
+
+    module _ (not-judged : r .kind ≡ 2 → ⊥) where
+      pub kept-explained : r .kind ≡ 3 → own-explained opening log s (r .cell) n at ≡ explained z opening log s r n at count named
+      unfolding explained
+      kept-explained own =
+          rw (answered in-time) (sym (cond-fails _ _ (ne-eqb (r .kind) 2 not-judged) ∙ cond-passes _ _ (eq-eqb (r .kind) 3 own)))
+
+      pub other-explained : (r .kind ≡ 3 → ⊥) → not (overtaken z s (r .kind) (r .cell) at count) ≡ explained z opening log s r n at count named
+      unfolding explained
+      other-explained not-own =
+          rw (answered in-time) (sym (cond-fails _ _ (ne-eqb (r .kind) 2 not-judged) ∙ cond-fails _ _ (ne-eqb (r .kind) 3 not-own)))

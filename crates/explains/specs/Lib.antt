@@ -1,0 +1,2 @@
+pub mod Explained
+pub mod Listed

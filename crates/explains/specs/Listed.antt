@@ -1,0 +1,17 @@
+-- A list of begin records: where one stands in it, and who in it is in time.
+use Prim.Native.Nat.{ℕ}
+use mathlib.Core.Bool.{Bool, not, _&&_, _||_}
+use mathlib.Core.List.{List}
+use lib.ListN.{length, getD}
+use lib.Dec.{ltb, eqb}
+use Rattle.basics.specs.Below.{allBelow, leastBelow}
+use Rattle.replay.specs.declared.state.Replay.{Replay}
+
+-- where a transaction first stands in a list; the list's length if it does not
+unfoldable pub position : List ℕ → ℕ → ℕ
+position list who = leastBelow (λ i. eqb (getD list i 0) who) (length list)
+
+-- each listed transaction is t, or committed before the moment of t
+unfoldable pub all-in-time : Replay → List ℕ → ℕ → Bool
+all-in-time s list t =
+    allBelow (λ i. eqb (getD list i 0) t || (not (eqb (getD (s .commit) i 0) 0) && ltb (getD (s .commit) i 0) (s .moment))) (length list)

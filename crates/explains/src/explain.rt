@@ -1,0 +1,90 @@
+// Whether a record of a listed transaction is explained by the list.
+ghost use mathlib.Core.Path.{_≡_};
+ghost use Prim.Native.Nat.{_*_, _<_, _≤_};
+ghost use lib.ListN.{length};
+ghost use Rattle.rules.specs.Sizes.{Within, width, record-bytes, table-bytes};
+ghost use Rattle.explains.specs.Explained.{PastOnly, CellRight, read-explained, own-explained, explained};
+use crate::later;
+use crate::values;
+use replay::state;
+use replay::state::Replay;
+use rules::Record;
+use rules::Size;
+
+// A judged read: nobody listed later has committed the cell, and the value is the table's.
+fn is_read_explained(
+    from: Replay,
+    opening: &[u8],
+    log: &[u8],
+    cell: usize,
+    n: u16,
+    at: usize,
+    count: usize,
+    z: Size,
+) -> bool
+    requires { ⌜ Within z ⌝ }
+    requires { ⌜ PastOnly n from ⌝ }
+    requires { ⌜ (1 ≤ n) × (record-bytes * n ≤ length (now log)) ⌝ }
+    requires { ⌜ (length (now opening) ≡ table-bytes z) × ((cell < z .cells) × (count ≤ width)) ⌝ }
+    ensures { λ r. ⌜ r ≡ read-explained (now (opening .entry)) (now (log .entry)) from cell n at count ⌝ }
+{
+    if later::is_used_later(from, cell, at, count, false) {
+        return false;
+    }
+    let source = from.table[cell];
+    values::is_from(opening, log, n, source, cell)
+}
+
+// An own read: the value is that of the transaction's latest write of the cell.
+fn is_own_explained(
+    from: Replay,
+    opening: &[u8],
+    log: &[u8],
+    cell: usize,
+    n: u16,
+    at: usize,
+    z: Size,
+) -> bool
+    requires { ⌜ Within z ⌝ }
+    requires { ⌜ PastOnly n from ⌝ }
+    requires { ⌜ (1 ≤ n) × (record-bytes * n ≤ length (now log)) ⌝ }
+    requires { ⌜ (length (now opening) ≡ table-bytes z) × ((cell < z .cells) × (at < width)) ⌝ }
+    ensures { λ r. ⌜ r ≡ own-explained (now (opening .entry)) (now (log .entry)) from cell n at ⌝ }
+{
+    let mark = 32 * at + cell;
+    let source = from.wrote[mark];
+    values::is_from(opening, log, n, source, cell)
+}
+
+// Record number n, of the transaction listed at a position: nobody who is not listed commits before the moment, nobody listed later comes
+// to stand before it, and what it read is what the list carries to it.
+pub fn is_explained(
+    from: Replay,
+    opening: &[u8],
+    log: &[u8],
+    entry: Record,
+    n: u16,
+    at: usize,
+    count: usize,
+    named: bool,
+    z: Size,
+) -> bool
+    requires { ⌜ Within z ⌝ }
+    requires { ⌜ PastOnly n from ⌝ }
+    requires { ⌜ (1 ≤ n) × ((record-bytes * n ≤ length (now log)) × (length (now opening) ≡ table-bytes z)) ⌝ }
+    requires { ⌜ CellRight z entry ⌝ }
+    requires { ⌜ (at < count) × (count ≤ width) ⌝ }
+    ensures { λ r. ⌜ r ≡ explained z (now (opening .entry)) (now (log .entry)) from entry n at count named ⌝ }
+{
+    let cell = entry.cell as usize;
+    if (named & state::sets_moment(entry.kind)) & from.stranger {
+        return false;
+    }
+    if entry.kind == 2 {
+        return is_read_explained(from, opening, log, cell, n, at, count, z);
+    }
+    if entry.kind == 3 {
+        return is_own_explained(from, opening, log, cell, n, at, z);
+    }
+    !later::is_overtaken(from, entry.kind, cell, at, count, z)
+}

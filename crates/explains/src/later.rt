@@ -1,0 +1,75 @@
+// Who is listed later than a position, and has already done what would put it before the one that stands there.
+ghost use mathlib.Core.Path.{_≡_};
+ghost use Prim.Native.Nat.{_<_, _≤_};
+ghost use Rattle.rules.specs.Sizes.{Within, width};
+ghost use Rattle.explains.specs.Explained.{committed-later, used-later, any-used-later, overtaken};
+use records::kinds;
+use replay::state::Replay;
+use rules::Size;
+
+// Somebody listed later has committed.
+pub fn is_committed_later(from: Replay, at: usize, count: usize) -> bool
+    requires { ⌜ count ≤ width ⌝ }
+    ensures { λ r. ⌜ r ≡ committed-later from at count ⌝ }
+{
+    let mut i = 0;
+    while i < count {
+        if (at < i) & (from.commit[i] != 0) {
+            return true;
+        }
+        i += 1;
+    }
+    false
+}
+
+// Somebody listed later has committed the cell or, where reads count, made a judged read of it.
+pub fn is_used_later(from: Replay, cell: usize, at: usize, count: usize, reads: bool) -> bool
+    requires { ⌜ (count ≤ width) × (cell < width) ⌝ }
+    ensures { λ r. ⌜ r ≡ used-later from cell at count reads ⌝ }
+{
+    let mut i = 0;
+    while i < count {
+        let mark = 32 * i + cell;
+        let wrote = (from.commit[i] != 0) & (from.wrote[mark] != 0);
+        if (at < i) & (wrote | (reads & from.read[mark])) {
+            return true;
+        }
+        i += 1;
+    }
+    false
+}
+
+// Somebody listed later has used one of the cells that the one at the position has written.
+pub fn is_any_used_later(from: Replay, at: usize, count: usize, z: Size) -> bool
+    requires { ⌜ Within z ⌝ }
+    requires { ⌜ (count ≤ width) × (at < width) ⌝ }
+    ensures { λ r. ⌜ r ≡ any-used-later z from at count ⌝ }
+{
+    let mut c = 0;
+    while c < z.cells {
+        let mark = 32 * at + c;
+        if (from.wrote[mark] != 0) & is_used_later(from, c, at, count, true) {
+            return true;
+        }
+        c += 1;
+    }
+    false
+}
+
+// With a record that starts or commits, somebody listed later comes to stand before its transaction.
+pub fn is_overtaken(from: Replay, kind: u8, cell: usize, at: usize, count: usize, z: Size) -> bool
+    requires { ⌜ Within z ⌝ }
+    requires { ⌜ (count ≤ width) × ((at < width) × (cell < width)) ⌝ }
+    ensures { λ r. ⌜ r ≡ overtaken z from kind cell at count ⌝ }
+{
+    if kind == 1 {
+        return is_committed_later(from, at, count);
+    }
+    if kind == 5 {
+        return is_any_used_later(from, at, count, z);
+    }
+    if kind == 9 {
+        return is_committed_later(from, at, count) | is_used_later(from, cell, at, count, true);
+    }
+    false
+}
