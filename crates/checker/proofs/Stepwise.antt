@@ -20,14 +20,8 @@ down : (P : ℕ → Type 0) → ((m : ℕ) → P (suc m) → P m) → (n m : ℕ
 down P step n zero h p = let e : 0 ≡ n = omega arith in subst P e p
 down P step n (suc m) h p = equal-or-not n (suc m) (λ e. subst P (sym e) p) (λ d. down P step n m (omega arith) (step m p))
 
--- ---- fewer records
-
--- the first records of a log that walks walk
-pub walks-first : (z : Size) (log : List ℕ) (n m : ℕ) → n ≤ m → walks z (day-of log m) ≡ true → walks z (day-of log n) ≡ true
-unfolding day-of walks
-walks-first z log = down (λ i. walks z (day-of log i) ≡ true) (λ m w. and-left (walks z (day-of log m)) _ w)
-
 module _ (z : Size) (opening : List ℕ) (t : ℕ) (order log : List ℕ) where
+  -- a replay that goes through does so over fewer records
   replays-first : (n m : ℕ) → n ≤ m → replays z opening t order (events (day-of log m)) ≡ true → replays z opening t order (events (day-of log n)) ≡ true
   unfolding day-of events replays
   replays-first =

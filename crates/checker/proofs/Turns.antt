@@ -20,6 +20,7 @@ use Rattle.rules.specs.Day.{whose, event, events, is-transaction}
 use Rattle.rules.specs.Checker.{accepted}
 use Rattle.rules.proofs.InTime.{step-right, replays}
 use Rattle.rules.proofs.Daylog.{length-day-of}
+use Rattle.readback.proofs.FollowedLog.{walks-first}
 use Rattle.replay.specs.declared.state.Replay.{Replay}
 use Rattle.replay.specs.Kept.{fresh, whose-kept, followed}
 use Rattle.explains.specs.Listed.{position, all-in-time}
@@ -28,7 +29,7 @@ use Rattle.checker.proofs.Mirrored.{Mirrors, mirrors-fresh, whose-mirro
 use Rattle.checker.proofs.Followed.{mirrors-more}
 use Rattle.explains.proofs.Positions.{position-member}
 use Rattle.checker.proofs.Replaying.{explained-says, unlisted-right, in-time-says, cell-right, place-within}
-use Rattle.checker.proofs.Stepwise.{walks-first, replays-on, accepted-not, accepted-end}
+use Rattle.checker.proofs.Stepwise.{replays-on, accepted-not, accepted-end}
 
 module _ (z : Size) (opening log : List ℕ) (t : ℕ) (order : List ℕ) where
   -- after n records: what is kept mirrors them, and each is explained
@@ -52,7 +53,7 @@ module _ (z : Size) (opening log : List ℕ) (t : ℕ) (order : List ℕ) where
 
       walk-on : walks z (next ∷ day) ≡ true
       unfolding day-of
-      walk-on = walks-first z log (suc n) m below walk
+      walk-on = walks-first z log m (suc n) below walk
 
       number : suc (length day) ≡ n + 1
       number = ap suc (length-day-of log n) ∙ sym (add-one n)
