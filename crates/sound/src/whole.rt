@@ -4,6 +4,7 @@ ghost use Rattle.rules.specs.Sizes.{Within};
 ghost use Rattle.rules.specs.Books.{books-of};
 ghost use Rattle.rules.specs.Sound.{sound};
 use crate::clauses;
+use keys::apart;
 use rules::Place;
 use rules::Size;
 use survey::search;
@@ -17,6 +18,6 @@ pub fn are_sound(places: [Place; 32], records: u16, z: Size) -> bool
         return false;
     }
     clauses::each_sound(places, records, z)
-        && clauses::begins_differ(places, z)
-        && clauses::commits_differ(places, z)
+        && apart::begins_differ(places, z)
+        && apart::commits_differ(places, z)
 }

@@ -1,0 +1,2 @@
+// Keys that differ: begin and commit records.
+pub mod apart;

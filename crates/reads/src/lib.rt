@@ -1,0 +1,2 @@
+// What a place read, as soundness asks it.
+pub mod cells;
