@@ -4,7 +4,7 @@ ghost use Prim.Native.Nat.{_<_, _≤_};
 ghost use Rattle.rules.specs.Sizes.{Within, width};
 ghost use Rattle.rules.specs.Day.{sets-moment};
 ghost use Rattle.replay.specs.Kept.{fresh, whose-kept, with-holder, with-moment, with-read, with-write, laid, sealed, noted, followed};
-use records::kinds;
+use parts::kinds;
 use rules::Record;
 use rules::Size;
 

@@ -9,11 +9,11 @@ ghost use Rattle.rules.specs.Steps.{write-rule, read-rule};
 ghost use Rattle.recording.specs.Stepped.{step-of};
 use granting::held;
 use judging::judged;
+use parts::bytes;
 use place::handle;
 use reasons::asked;
 use recording::Step;
 use recording::record;
-use records::bytes;
 use rules::Place;
 use rules::Size;
 

@@ -8,10 +8,10 @@ ghost use Rattle.rules.specs.State.{state-of, log-after};
 ghost use Rattle.rules.specs.Steps.{begin-rule, post-rule};
 ghost use Rattle.recording.specs.Stepped.{step-of};
 use granting::taken;
+use parts::bytes;
 use reasons::asked;
 use recording::Step;
 use recording::record;
-use records::bytes;
 use rules::Place;
 use rules::Size;
 

@@ -8,7 +8,7 @@ use lib.Seq.{take-all}
 use borrow.Author.Needs.{needs}
 use denote.Ref.{now}
 use Rattle.basics.specs.Bytes.{number}
-use Rattle.records.proofs.Copies.{copied-more}
+use Rattle.parts.proofs.Copies.{copied-more}
 use Rattle.checker.specs.Desk.{pairs-of}
 use Rattle.checker.proofs.Unpacked.{pairs-length, pair-at}
 use Rattle.checker.proofs.desk.unpack.Statement.{statement}
