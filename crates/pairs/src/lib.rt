@@ -1,5 +1,3 @@
-// Who stands before whom: moment and company, the four kinds of pair, and the square of pairs.
-pub mod company;
+// Who stands before whom: the four kinds of pair, and arrays of marks.
 pub mod marks;
 pub mod pair;
-pub mod square;

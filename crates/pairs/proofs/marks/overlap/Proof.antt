@@ -4,18 +4,18 @@ use Prim.Native.Nat.{_≤_, _-_}
 use mathlib.Core.Path.{_≡_}
 use mathlib.Core.Bool.{false, _&&_}
 use mathlib.Core.Logic.{⊎-elim}
+use lib.ListN.{getD}
 use native.Mathlib.Omega.{arith}
 use borrow.Author.Needs.{needs}
 use Rattle.basics.specs.Below.{anyBelow}
 use Rattle.basics.proofs.Bools.{and-both, and-fails-left, and-second}
 use Rattle.basics.proofs.Below.{any-none, any-skips}
-use Rattle.pairs.specs.Square.{is-in}
 use Rattle.basics.proofs.Tested.{any-found, none-found}
 use Rattle.pairs.proofs.marks.overlap.Statement.{statement}
 use Rattle.pairs.proofs.marks.overlap.Tie as tie
 
 abbrev Inv-loop : tie.InvT-loop
-Inv-loop limit a b k₀ k = (k ≤ limit) × (anyBelow (λ i. is-in a i && is-in b i) k ≡ false)
+Inv-loop limit a b k₀ k = (k ≤ limit) × (anyBelow (λ i. getD a i false && getD b i false) k ≡ false)
 
 abbrev μ-loop : tie.MeasureT-loop
 μ-loop limit a b k₀ k = limit - k

@@ -1,4 +1,4 @@
--- `pairs::company::latest_read` meets its contract. The loop's invariant: `latest` is the greatest of the last reads of the cells below c.
+-- `moments::company::latest_read` meets its contract. The loop's invariant: `latest` is the greatest of the last reads of the cells below c.
 -- The measure is what is left of the cells. Assumes nothing.
 use Prim.Native.Nat.{_≤_, _-_}
 use mathlib.Core.Path.{sym, _∙_, ap, _≡_}
@@ -10,9 +10,9 @@ use borrow.Author.Needs.{needs}
 use Rattle.basics.specs.Below.{greatestBelow}
 use Rattle.basics.proofs.Below.{greatest-none}
 use Rattle.rules.specs.Judging.{latest-read}
-use Rattle.pairs.proofs.Moments.{greatest-taken, greatest-kept}
-use Rattle.pairs.proofs.company.latest_read.Statement.{statement}
-use Rattle.pairs.proofs.company.latest_read.Tie as tie
+use Rattle.moments.proofs.Moments.{greatest-taken, greatest-kept}
+use Rattle.moments.proofs.company.latest_read.Statement.{statement}
+use Rattle.moments.proofs.company.latest_read.Tie as tie
 
 abbrev Inv-loop : tie.InvT-loop
 Inv-loop z last latest₀ c₀ latest c = (c ≤ z .cells) × (latest ≡ greatestBelow (λ i. getD last i 0) c)

@@ -14,7 +14,7 @@ use Rattle.rules.specs.declared.Size.{Size}
 use Rattle.rules.specs.Sizes.{Within, width}
 use Rattle.rules.specs.Books.{Books, place-at}
 use Rattle.rules.specs.Judging.{precedes, stands-before}
-use Rattle.pairs.specs.Square.{is-in, said-before, row-of, square-of}
+use Rattle.squares.specs.Square.{is-in, said-before, row-of, square-of}
 
 module _ (z : Size) (b : Books) (k m : ℕ) where
   -- another than m stands before it if one of the four kinds holds

@@ -3,8 +3,8 @@ ghost use mathlib.Core.Path.{_≡_};
 ghost use Prim.Native.Nat.{_<_};
 ghost use Rattle.rules.specs.Sizes.{Within, width};
 ghost use Rattle.rules.specs.Books.{of-places};
-ghost use Rattle.pairs.specs.Square.{row-of, square-of};
-use crate::pair;
+ghost use Rattle.squares.specs.Square.{row-of, square-of};
+use pairs::pair;
 use rules::Place;
 use rules::Size;
 

@@ -1,4 +1,4 @@
--- `pairs::company::company_of` meets its contract. The loop's invariant: `present` is filled in below k by who is in the company.
+-- `moments::company::company_of` meets its contract. The loop's invariant: `present` is filled in below k by who is in the company.
 -- The measure is what is left of the places. Assumes nothing.
 use Prim.Native.Nat.{_≤_, _-_}
 use mathlib.Core.Path.{sym, _∙_, _≡_}
@@ -14,9 +14,9 @@ use Rattle.basics.proofs.Bools.{and-fails-left, and-second}
 use Rattle.rules.specs.Books.{place-at, is-committed, of-places}
 use Rattle.rules.specs.Sizes.{width}
 use Rattle.rules.specs.Judging.{company}
-use Rattle.pairs.proofs.Moments.{company-itself, company-other}
-use Rattle.pairs.proofs.company.company_of.Statement.{statement}
-use Rattle.pairs.proofs.company.company_of.Tie as tie
+use Rattle.moments.proofs.Moments.{company-itself, company-other}
+use Rattle.moments.proofs.company.company_of.Statement.{statement}
+use Rattle.moments.proofs.company.company_of.Tie as tie
 
 abbrev Inv-loop : tie.InvT-loop
 Inv-loop i z places moment present₀ k₀ present k = (k ≤ z .places) × (present ≡ filledBelow (company z (of-places places) i) false k width)

@@ -1,9 +1,9 @@
--- `pairs::company::moment_of` meets its contract: each return is one of the three cases of the moment, with what `latest_read` says.
+-- `moments::company::moment_of` meets its contract: each return is one of the three cases of the moment, with what `latest_read` says.
 -- Assumes nothing.
 use borrow.Author.Needs.{needs}
-use Rattle.pairs.proofs.Moments.{moment-committed, moment-begun, moment-read}
-use Rattle.pairs.proofs.company.moment_of.Statement.{statement}
-use Rattle.pairs.proofs.company.moment_of.Tie as tie
+use Rattle.moments.proofs.Moments.{moment-committed, moment-begun, moment-read}
+use Rattle.moments.proofs.company.moment_of.Statement.{statement}
+use Rattle.moments.proofs.company.moment_of.Tie as tie
 
 returns : tie.Need-returns
 returns c = moment-committed _ _ (c .if1 .taken)

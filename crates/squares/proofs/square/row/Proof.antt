@@ -1,4 +1,4 @@
--- `pairs::square::row` meets its contract. The loop's invariant: the row is filled in below k by who is present and stands before m.
+-- `squares::square::row` meets its contract. The loop's invariant: the row is filled in below k by who is present and stands before m.
 -- The measure is what is left of the places. Assumes nothing.
 use Prim.Native.Nat.{_≤_, _-_}
 use mathlib.Core.Path.{sym, _∙_, _≡_}
@@ -12,10 +12,10 @@ use Rattle.basics.proofs.Bools.{and-fails-left, and-second}
 use Rattle.rules.specs.Sizes.{width}
 use Rattle.rules.specs.Books.{of-places}
 use Rattle.rules.specs.Judging.{stands-before}
-use Rattle.pairs.specs.Square.{is-in, row-of}
-use Rattle.pairs.proofs.Squares.{stands-other, stands-itself}
-use Rattle.pairs.proofs.square.row.Statement.{statement}
-use Rattle.pairs.proofs.square.row.Tie as tie
+use Rattle.squares.specs.Square.{is-in, row-of}
+use Rattle.squares.proofs.Squares.{stands-other, stands-itself}
+use Rattle.squares.proofs.square.row.Statement.{statement}
+use Rattle.squares.proofs.square.row.Tie as tie
 
 abbrev Inv-loop : tie.InvT-loop
 Inv-loop m z places present before₀ after k₀ before k = (k ≤ z .places) × (before ≡ filledBelow (λ i. is-in present i && stands-before z (of-places places) i m) false k width)

@@ -1,4 +1,4 @@
--- `pairs::square::square` meets its contract. The loop's invariant: the rows below m are filled in, each as `row` says or empty of marks.
+-- `squares::square::square` meets its contract. The loop's invariant: the rows below m are filled in, each as `row` says or empty of marks.
 -- The measure is what is left of the places. Assumes nothing.
 use Prim.Native.Nat.{_≤_, _-_}
 use mathlib.Core.Path.{sym, _∙_, _≡_}
@@ -11,10 +11,10 @@ use Rattle.basics.specs.Below.{filledBelow}
 use Rattle.basics.proofs.Filled.{filled-none, filled-set, filled-passed, filled-whole}
 use Rattle.rules.specs.Sizes.{width}
 use Rattle.rules.specs.Books.{of-places}
-use Rattle.pairs.specs.Square.{is-in, row-of, square-of}
+use Rattle.squares.specs.Square.{is-in, row-of, square-of}
 use Rattle.basics.proofs.Bools.{cond-passes, cond-fails}
-use Rattle.pairs.proofs.square.square.Statement.{statement}
-use Rattle.pairs.proofs.square.square.Tie as tie
+use Rattle.squares.proofs.square.square.Statement.{statement}
+use Rattle.squares.proofs.square.square.Tie as tie
 
 abbrev Inv-loop : tie.InvT-loop
 Inv-loop places z present rows₀ m₀ rows m = (m ≤ z .places) × (rows ≡ filledBelow (λ i. cond (is-in present i) (row-of z (of-places places) present i) (replicate width false)) (replicate width false) m width)

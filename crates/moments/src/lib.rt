@@ -1,0 +1,2 @@
+// The moment of a transaction, and who is in its company.
+pub mod company;

@@ -1,0 +1,2 @@
+// The square of pairs.
+pub mod square;
