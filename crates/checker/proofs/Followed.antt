@@ -20,11 +20,11 @@ use Rattle.rules.proofs.InTime.{read-cell, has-stranger}
 use Rattle.rules.proofs.Seats.{LiveSeat, walks-earlier, fits-live, seat-by}
 use Rattle.rules.proofs.CompanyInTime.{moment-more}
 use Rattle.replay.specs.declared.state.Replay.{Replay}
-use Rattle.explains.specs.Listed.{position}
+use Rattle.listing.specs.Listed.{position}
 use Rattle.replay.specs.Kept.{mark, holder-after, laid, followed}
 use Rattle.explains.specs.Explained.{PastOnly}
 use Rattle.checker.proofs.Arrays.{getD-set, set-bounded, mark-only, mark-within, laid-length, laid-bounded, laid-at}
-use Rattle.explains.proofs.Positions.{position-found, position-member, position-only}
+use Rattle.listing.proofs.Positions.{position-found, position-member, position-only}
 use Rattle.checker.proofs.Mirrored.{latest-write, table-record, Mirrors, walks-fields, wrote-told}
 use Rattle.checker.proofs.Changed.{Follows, followed-follows}
 

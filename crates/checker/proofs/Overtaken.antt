@@ -21,10 +21,10 @@ use Rattle.rules.specs.Day.{Event, whose, event, events, committed, wrote-cell}
 use Rattle.rules.proofs.InTime.{read-cell, committed-cell, arises}
 use Rattle.rules.proofs.Day.{number-bounds, who-bound, whose-starts}
 use Rattle.replay.specs.declared.state.Replay.{Replay}
-use Rattle.explains.specs.Listed.{position}
+use Rattle.listing.specs.Listed.{position}
 use Rattle.replay.specs.Kept.{mark}
-use Rattle.explains.specs.Explained.{committed-later, used-later, any-used-later, overtaken}
-use Rattle.explains.proofs.Positions.{position-found}
+use Rattle.overtaking.specs.Later.{committed-later, used-later, any-used-later, overtaken}
+use Rattle.listing.proofs.Positions.{position-found}
 use Rattle.checker.proofs.Mirrored.{Mirrors, walks-fields, committed-told, wrote-told}
 
 -- ---- tests

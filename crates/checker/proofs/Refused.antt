@@ -20,8 +20,8 @@ use Rattle.rules.specs.Numbers.{first-reason}
 use Rattle.rules.proofs.LaidOut.{laid-out-has}
 use Rattle.rules.proofs.CompanyInTime.{company-told}
 use Rattle.rules.proofs.FewInCompany.{company-few}
-use Rattle.explains.specs.Listed.{position}
-use Rattle.explains.proofs.Positions.{position-member}
+use Rattle.listing.specs.Listed.{position}
+use Rattle.listing.proofs.Positions.{position-member}
 
 module _ (z : Size) (opening log : List ℕ) (t : ℕ) where
   -- it is not accepted

@@ -22,9 +22,10 @@ use Rattle.rules.specs.Layout.{walks}
 use Rattle.rules.specs.Day.{Event, whose, event, events, sets-moment, written-value}
 use Rattle.rules.proofs.InTime.{arises, table-by, in-company, step-right}
 use Rattle.replay.specs.declared.state.Replay.{Replay}
-use Rattle.explains.specs.Listed.{position, all-in-time}
-use Rattle.explains.specs.Explained.{CellRight, value-at, source, overtaken, read-explained, own-explained, explained}
-use Rattle.explains.proofs.Positions.{all-in-below, position-found, position-member, keeps-position}
+use Rattle.listing.specs.Listed.{position, all-in-time}
+use Rattle.overtaking.specs.Later.{overtaken}
+use Rattle.explains.specs.Explained.{CellRight, value-at, source, read-explained, own-explained, explained}
+use Rattle.listing.proofs.Positions.{all-in-below, position-found, position-member, keeps-position}
 use Rattle.checker.proofs.Mirrored.{latest-write, Mirrors, walks-fields, committed-told}
 use Rattle.checker.proofs.Followed.{cell-within}
 use Rattle.checker.proofs.Valued.{value-of-bytes, valued, write-valued, table-valued, own-read-wrote}

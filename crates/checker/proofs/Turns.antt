@@ -23,11 +23,11 @@ use Rattle.rules.proofs.Daylog.{length-day-of}
 use Rattle.readback.proofs.FollowedLog.{walks-first}
 use Rattle.replay.specs.declared.state.Replay.{Replay}
 use Rattle.replay.specs.Kept.{fresh, whose-kept, followed}
-use Rattle.explains.specs.Listed.{position, all-in-time}
+use Rattle.listing.specs.Listed.{position, all-in-time}
 use Rattle.explains.specs.Explained.{PastOnly, CellRight, explained}
 use Rattle.checker.proofs.Mirrored.{Mirrors, mirrors-fresh, whose-mirrored}
 use Rattle.checker.proofs.Followed.{mirrors-more}
-use Rattle.explains.proofs.Positions.{position-member}
+use Rattle.listing.proofs.Positions.{position-member}
 use Rattle.checker.proofs.Replaying.{explained-says, unlisted-right, in-time-says, cell-right, place-within}
 use Rattle.checker.proofs.Stepwise.{replays-on, accepted-not, accepted-end}
 

@@ -1,7 +1,7 @@
--- Whether a record is overtaken or explained, case by case. Assumes nothing.
+-- Whether a record is explained, case by case. Assumes nothing.
 use Prim.Native.Nat.{ℕ}
 use mathlib.Core.Path.{_≡_, sym, _∙_, ap}
-use mathlib.Core.Bool.{Bool, true, false, not, _&&_, _||_}
+use mathlib.Core.Bool.{Bool, true, false, not, _&&_}
 use mathlib.Core.List.{List}
 use borrow.Author.Tests.{eq-eqb, ne-eqb}
 use Rattle.basics.proofs.Bools.{cond-passes, cond-fails}
@@ -9,35 +9,8 @@ use Rattle.rules.specs.declared.Record.{Record}
 use Rattle.rules.specs.declared.Size.{Size}
 use Rattle.rules.specs.Day.{sets-moment}
 use Rattle.replay.specs.declared.state.Replay.{Replay}
-use Rattle.explains.specs.Explained.{committed-later, used-later, any-used-later, overtaken, read-explained, own-explained, explained}
-
-module _ (z : Size) (s : Replay) (kind c at count : ℕ) where
-  -- by kind: a begin, a commit, a post, another
-  pub begin-overtaken : kind ≡ 1 → committed-later s at count ≡ overtaken z s kind c at count
-  unfolding overtaken
-  begin-overtaken e = sym (cond-passes _ _ (eq-eqb kind 1 e))
-
-  module _ (not-begin : kind ≡ 1 → ⊥) where
-    pub commit-overtaken : kind ≡ 5 → any-used-later z s at count ≡ overtaken z s kind c at count
-    unfolding overtaken
-    commit-overtaken e = sym (cond-fails _ _ (ne-eqb kind 1 not-begin) ∙ cond-passes _ _ (eq-eqb kind 5 e))
-
-    module _ (not-commit : kind ≡ 5 → ⊥) where
-      pub post-overtaken : kind ≡ 9 → committed-later s at count || used-later s c at count true ≡ overtaken z s kind c at count
-      unfolding overtaken
-      post-overtaken e =
-          sym
-          (cond-fails _ _ (ne-eqb kind 1 not-begin)
-          ∙ cond-fails _ _ (ne-eqb kind 5 not-commit)
-          ∙ cond-passes _ _ (eq-eqb kind 9 e))
-
-      pub other-overtaken : (kind ≡ 9 → ⊥) → false ≡ overtaken z s kind c at count
-      unfolding overtaken
-      other-overtaken not-post =
-          sym
-          (cond-fails _ _ (ne-eqb kind 1 not-begin)
-          ∙ cond-fails _ _ (ne-eqb kind 5 not-commit)
-          ∙ cond-fails _ _ (ne-eqb kind 9 not-post))
+use Rattle.overtaking.specs.Later.{overtaken}
+use Rattle.explains.specs.Explained.{read-explained, own-explained, explained}
 
 module _ (z : Size) (opening log : List ℕ) (s : Replay) (r : Record) (n at count : ℕ) (named : Bool) {sets : Bool} (e : sets ≡ sets-moment (r .kind)) where
   -- as the answer about the kind says

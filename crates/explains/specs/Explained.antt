@@ -1,20 +1,20 @@
 -- Whether a record of a listed transaction is explained by the list, told on what a replay keeps.
 use Prim.Native.Nat.{ℕ, _*_, _-_, _≤_, _<_}
 use mathlib.Core.Path.{_≡_}
-use mathlib.Core.Bool.{Bool, true, false, not, cond, _&&_, _||_}
+use mathlib.Core.Bool.{Bool, false, not, cond, _&&_}
 use mathlib.Core.List.{List}
 use lib.ListN.{getD}
-use lib.Dec.{ltb, eqb}
-use Rattle.basics.specs.Below.{anyBelow}
+use lib.Dec.{eqb}
 use Rattle.basics.specs.Bytes.{part, same}
 use Rattle.rules.specs.declared.Record.{Record}
 use Rattle.rules.specs.declared.Size.{Size}
 use Rattle.rules.specs.Sizes.{cell-bytes, record-bytes, width}
 use Rattle.rules.specs.Cells.{cell-of}
-use Rattle.rules.specs.Daylog.{begin-kind, judged-read-kind, own-read-kind, commit-kind, post-kind}
+use Rattle.rules.specs.Daylog.{judged-read-kind, own-read-kind}
 use Rattle.rules.specs.Day.{sets-moment}
 use Rattle.replay.specs.declared.state.Replay.{Replay}
 use Rattle.replay.specs.Kept.{mark}
+use Rattle.overtaking.specs.Later.{used-later, overtaken}
 
 -- ---- what is asked
 
@@ -37,32 +37,6 @@ value-at log n = part (record-bytes * n - cell-bytes) cell-bytes log
 -- the value in record w or, where w is 0, of the cell in the opening table
 unfoldable pub source : List ℕ → List ℕ → ℕ → ℕ → List ℕ
 source opening log w c = cond (eqb w 0) (cell-of opening c) (value-at log w)
-
--- ---- who is listed later than a position
-
--- somebody who has committed
-unfoldable pub committed-later : Replay → ℕ → ℕ → Bool
-committed-later s at count = anyBelow (λ i. ltb at i && not (eqb (getD (s .commit) i 0) 0)) count
-
--- somebody who has committed the cell or, where reads count, made a judged read of it
-unfoldable pub used-later : Replay → ℕ → ℕ → ℕ → Bool → Bool
-used-later s c at count reads =
-    anyBelow
-    (λ i.
-    ltb at i
-    && ((not (eqb (getD (s .commit) i 0) 0) && not (eqb (getD (s .wrote) (mark i c) 0) 0)) || (reads && getD (s .read) (mark i c) false)))
-    count
-
--- somebody who has used one of the cells that the one at the position has written
-unfoldable pub any-used-later : Size → Replay → ℕ → ℕ → Bool
-any-used-later z s at count = anyBelow (λ c. not (eqb (getD (s .wrote) (mark at c) 0) 0) && used-later s c at count true) (z .cells)
-
--- with a record of the kind, somebody who comes to stand before the one at the position
-unfoldable pub overtaken : Size → Replay → ℕ → ℕ → ℕ → ℕ → Bool
-overtaken z s kind c at count =
-    cond (eqb kind begin-kind) (committed-later s at count)
-    (cond (eqb kind commit-kind) (any-used-later z s at count)
-    (cond (eqb kind post-kind) (committed-later s at count || used-later s c at count true) false))
 
 -- ---- a record
 

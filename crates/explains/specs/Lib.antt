@@ -1,2 +1,1 @@
 pub mod Explained
-pub mod Listed

@@ -1,4 +1,4 @@
--- `explains::lists::position` meets its contract. The loop's invariant: the transaction was not found so far. The measure is what is left of the list.
+-- `listing::lists::position` meets its contract. The loop's invariant: the transaction was not found so far. The measure is what is left of the list.
 -- Assumes nothing.
 use Prim.Native.Nat.{ℕ, _≤_, _-_}
 use mathlib.Core.Bool.{Bool}
@@ -11,9 +11,9 @@ use borrow.Author.Needs.{needs}
 use borrow.Author.Tests.{eq-eqb, ne-eqb}
 use Rattle.basics.specs.Below.{leastBelow}
 use Rattle.basics.proofs.Search.{least-at-most, least-first, least-skips}
-use Rattle.explains.specs.Listed.{position}
-use Rattle.explains.proofs.lists.position.Statement.{statement}
-use Rattle.explains.proofs.lists.position.Tie as tie
+use Rattle.listing.specs.Listed.{position}
+use Rattle.listing.proofs.lists.position.Statement.{statement}
+use Rattle.listing.proofs.lists.position.Tie as tie
 
 abbrev Inv-loop : tie.InvT-loop
 Inv-loop list who i₀ i = (i ≤ length list) × (leastBelow (λ j. eqb (getD list j 0) who) i ≡ i)

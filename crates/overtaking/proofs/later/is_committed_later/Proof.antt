@@ -1,4 +1,4 @@
--- `explains::later::is_committed_later` meets its contract. The loop's invariant: nobody listed before i is later and committed.
+-- `overtaking::later::is_committed_later` meets its contract. The loop's invariant: nobody listed before i is later and committed.
 -- The measure is what is left of the list. Assumes nothing.
 use Prim.Native.Nat.{_≤_, _-_}
 use mathlib.Core.Path.{_≡_}
@@ -10,9 +10,9 @@ use borrow.Author.Needs.{needs}
 use Rattle.basics.specs.Below.{anyBelow}
 use Rattle.basics.proofs.Below.{any-none, any-skips}
 use Rattle.basics.proofs.Tested.{any-found, none-found}
-use Rattle.explains.specs.Explained.{committed-later}
-use Rattle.explains.proofs.later.is_committed_later.Statement.{statement}
-use Rattle.explains.proofs.later.is_committed_later.Tie as tie
+use Rattle.overtaking.specs.Later.{committed-later}
+use Rattle.overtaking.proofs.later.is_committed_later.Statement.{statement}
+use Rattle.overtaking.proofs.later.is_committed_later.Tie as tie
 
 abbrev Inv-loop : tie.InvT-loop
 Inv-loop at count from i₀ i = (i ≤ count) × (anyBelow (λ j. ltb at j && not (eqb (getD (from .commit) j 0) 0)) i ≡ false)

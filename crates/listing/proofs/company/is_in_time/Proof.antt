@@ -1,4 +1,4 @@
--- `explains::company::is_in_time` meets its contract. The loop's invariant: each listed before i is in time. The measure is what is left of the list.
+-- `listing::company::is_in_time` meets its contract. The loop's invariant: each listed before i is in time. The measure is what is left of the list.
 -- Assumes nothing.
 use Prim.Native.Nat.{ℕ, _-_}
 use mathlib.Core.List.{List}
@@ -9,9 +9,9 @@ use borrow.Author.Tests.{not-true, not-false}
 use borrow.Author.Needs.{needs}
 use Rattle.basics.proofs.Tested.{Passed, none-passed, one-more-passes, one-fails, all-passed}
 use Rattle.replay.specs.declared.state.Replay.{Replay}
-use Rattle.explains.specs.Listed.{all-in-time}
-use Rattle.explains.proofs.company.is_in_time.Statement.{statement}
-use Rattle.explains.proofs.company.is_in_time.Tie as tie
+use Rattle.listing.specs.Listed.{all-in-time}
+use Rattle.listing.proofs.company.is_in_time.Statement.{statement}
+use Rattle.listing.proofs.company.is_in_time.Tie as tie
 
 -- the one listed at i is t, or committed before the moment of t
 abbrev is-in-time : Replay → List ℕ → ℕ → ℕ → Bool

@@ -1,7 +1,7 @@
 // A list of begin records: where one stands in it, and whether none stands twice.
 ghost use mathlib.Core.Path.{_≡_};
 ghost use Rattle.basics.specs.Lists.{distinct};
-ghost use Rattle.explains.specs.Listed.{position};
+ghost use Rattle.listing.specs.Listed.{position};
 
 // Where a transaction first stands in a list; the list's length if it does not.
 pub fn position(list: &[u16], who: u16) -> usize

@@ -1,10 +1,10 @@
--- `explains::later::is_overtaken` meets its contract, kind by kind. Assumes nothing.
+-- `overtaking::later::is_overtaken` meets its contract, kind by kind. Assumes nothing.
 use mathlib.Core.Path.{_∙_, ap₂}
 use mathlib.Core.Bool.{_||_}
 use borrow.Author.Needs.{needs}
-use Rattle.explains.proofs.Explaining.{begin-overtaken, commit-overtaken, post-overtaken, other-overtaken}
-use Rattle.explains.proofs.later.is_overtaken.Statement.{statement}
-use Rattle.explains.proofs.later.is_overtaken.Tie as tie
+use Rattle.overtaking.proofs.Overtaking.{begin-overtaken, commit-overtaken, post-overtaken, other-overtaken}
+use Rattle.overtaking.proofs.later.is_overtaken.Statement.{statement}
+use Rattle.overtaking.proofs.later.is_overtaken.Tie as tie
 
 is-committed-later-requires : tie.Need-is-committed-later-requires
 is-committed-later-requires c κs = search needs

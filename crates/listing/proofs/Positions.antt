@@ -16,7 +16,7 @@ use Rattle.basics.proofs.Bools.{clash, false-of-not, same-tests, and-left, and-
 use Rattle.basics.proofs.Below.{all-at, all-of, any-fails, any-false}
 use Rattle.basics.proofs.Search.{least-passes, least-below}
 use Rattle.basics.proofs.Lists.{all-in-at, all-in-of, member-of, member-at, member-nil, member-head, member-tail, member-cases, keeps-nil, keeps-cons, keeps-head, keeps-tail, distinct-head, distinct-tail}
-use Rattle.explains.specs.Listed.{position}
+use Rattle.listing.specs.Listed.{position}
 
 -- ---- members
 

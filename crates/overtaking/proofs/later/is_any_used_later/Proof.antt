@@ -1,4 +1,4 @@
--- `explains::later::is_any_used_later` meets its contract. The loop's invariant: no cell below c was written and used later.
+-- `overtaking::later::is_any_used_later` meets its contract. The loop's invariant: no cell below c was written and used later.
 -- The measure is what is left of the cells. Assumes nothing.
 use Prim.Native.Nat.{ℕ, _≤_, _-_}
 use mathlib.Core.Path.{_≡_, sym}
@@ -12,9 +12,9 @@ use Rattle.basics.proofs.Below.{any-none, any-skips}
 use Rattle.basics.proofs.Tested.{any-found, none-found}
 use Rattle.replay.specs.declared.state.Replay.{Replay}
 use Rattle.replay.specs.Kept.{mark}
-use Rattle.explains.specs.Explained.{used-later, any-used-later}
-use Rattle.explains.proofs.later.is_any_used_later.Statement.{statement}
-use Rattle.explains.proofs.later.is_any_used_later.Tie as tie
+use Rattle.overtaking.specs.Later.{used-later, any-used-later}
+use Rattle.overtaking.proofs.later.is_any_used_later.Statement.{statement}
+use Rattle.overtaking.proofs.later.is_any_used_later.Tie as tie
 
 -- the one at the position has written the cell, and somebody listed later has used it
 abbrev wrote-used : Replay → ℕ → ℕ → ℕ → Bool

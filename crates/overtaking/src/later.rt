@@ -2,7 +2,7 @@
 ghost use mathlib.Core.Path.{_≡_};
 ghost use Prim.Native.Nat.{_<_, _≤_};
 ghost use Rattle.rules.specs.Sizes.{Within, width};
-ghost use Rattle.explains.specs.Explained.{committed-later, used-later, any-used-later, overtaken};
+ghost use Rattle.overtaking.specs.Later.{committed-later, used-later, any-used-later, overtaken};
 use replay::state::Replay;
 use rules::Size;
 

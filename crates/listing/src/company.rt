@@ -3,7 +3,7 @@ ghost use mathlib.Core.Path.{_≡_};
 ghost use Prim.Native.Nat.{_≤_};
 ghost use lib.ListN.{length};
 ghost use Rattle.rules.specs.Sizes.{width};
-ghost use Rattle.explains.specs.Listed.{all-in-time};
+ghost use Rattle.listing.specs.Listed.{all-in-time};
 use replay::state::Replay;
 
 // Each listed transaction is the named one, or committed before its moment.

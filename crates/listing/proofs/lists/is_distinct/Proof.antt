@@ -1,4 +1,4 @@
--- `explains::lists::is_distinct` meets its contract. The loop's invariant: each number listed before i is first where it stands.
+-- `listing::lists::is_distinct` meets its contract. The loop's invariant: each number listed before i is first where it stands.
 -- The measure is what is left of the list. Assumes nothing.
 use Prim.Native.Nat.{_-_}
 use mathlib.Core.Path.{sym, _∙_}
@@ -7,9 +7,9 @@ use denote.Ref.{now}
 use borrow.Author.Tests.{eq-eqb, ne-eqb}
 use borrow.Author.Needs.{needs}
 use Rattle.basics.proofs.Tested.{Passed, none-passed, one-more-passes, one-fails, all-passed}
-use Rattle.explains.proofs.Firsts.{is-first, distinct-firsts}
-use Rattle.explains.proofs.lists.is_distinct.Statement.{statement}
-use Rattle.explains.proofs.lists.is_distinct.Tie as tie
+use Rattle.listing.proofs.Firsts.{is-first, distinct-firsts}
+use Rattle.listing.proofs.lists.is_distinct.Statement.{statement}
+use Rattle.listing.proofs.lists.is_distinct.Tie as tie
 
 abbrev Inv-loop : tie.InvT-loop
 Inv-loop list i₀ i = Passed (is-first list) (length list) i

@@ -1,4 +1,4 @@
--- `explains::later::is_used_later` meets its contract. The loop's invariant: nobody listed before i is later and used the cell.
+-- `overtaking::later::is_used_later` meets its contract. The loop's invariant: nobody listed before i is later and used the cell.
 -- The measure is what is left of the list. Assumes nothing.
 use Prim.Native.Nat.{ℕ, _≤_, _-_}
 use mathlib.Core.Path.{_≡_}
@@ -12,9 +12,9 @@ use Rattle.basics.proofs.Below.{any-none, any-skips}
 use Rattle.basics.proofs.Tested.{any-found, none-found}
 use Rattle.replay.specs.declared.state.Replay.{Replay}
 use Rattle.replay.specs.Kept.{mark}
-use Rattle.explains.specs.Explained.{used-later}
-use Rattle.explains.proofs.later.is_used_later.Statement.{statement}
-use Rattle.explains.proofs.later.is_used_later.Tie as tie
+use Rattle.overtaking.specs.Later.{used-later}
+use Rattle.overtaking.proofs.later.is_used_later.Statement.{statement}
+use Rattle.overtaking.proofs.later.is_used_later.Tie as tie
 
 -- the one listed at i is later, and has committed the cell or, where reads count, made a judged read of it
 abbrev uses-later : Replay → ℕ → ℕ → Bool → ℕ → Bool
