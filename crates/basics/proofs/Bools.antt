@@ -1,7 +1,7 @@
 -- Tests: how a Boolean is taken apart and made, and the two cases of a place below one more. Assumes nothing.
 use mathlib.Core.Path.{_≡_, refl, sym, _∙_}
 use mathlib.Core.Logic.{_⊎_, inl, inr}
-use mathlib.Core.Bool.{Bool, true, false, cond, _&&_, _||_, true≢false, false≢true}
+use mathlib.Core.Bool.{Bool, true, false, not, cond, _&&_, _||_, true≢false, false≢true}
 use Prim.Native.Nat.{ℕ, suc, _<_}
 use native.Mathlib.Decide.{decLt, ℕ-discrete}
 use native.Mathlib.Omega.{arith}
@@ -14,6 +14,10 @@ split false yes-case no-case = no-case refl
 -- no test both passes and fails
 pub clash : {b : Bool} → b ≡ true → b ≡ false → ⊥
 clash p q = true≢false (sym p ∙ q)
+
+-- nothing that fails passes
+pub never {ℓ} : {X : Type ℓ} → false ≡ true → X
+never e = absurd (false≢true e)
 
 -- what does not pass fails, and what does not fail passes
 pub false-of-not : (b : Bool) → (b ≡ true → ⊥) → b ≡ false
@@ -120,3 +124,8 @@ cond-passes x y e = rw e
 
 pub cond-fails {ℓ} : {A : Type ℓ} {b : Bool} (x y : A) → b ≡ false → cond b x y ≡ y
 cond-fails x y e = rw e
+
+-- a choice by the contrary of a test
+pub cond-not {ℓ} : {A : Type ℓ} (b : Bool) (x y : A) → cond (not b) y x ≡ cond b x y
+cond-not true x y = refl
+cond-not false x y = refl

@@ -1,15 +1,29 @@
--- Elements of lists that are made by repeating or mapping. Assumes nothing.
-use mathlib.Core.Path.{_≡_, refl}
+-- Elements of lists that are made by repeating, changing one or mapping. Assumes nothing.
+use mathlib.Core.Path.{_≡_, refl, sym, subst}
 use mathlib.Core.List.{List, [], _∷_, map}
 use Prim.Native.Nat.{ℕ, zero, suc, _<_}
 use native.Mathlib.Nat.{not-suc-le-zero, le-of-suc-le-suc}
-use lib.ListN.{length, getD, replicate}
+use lib.ListN.{length, getD, set, replicate}
+use lib.Seq.{getD-set-same, getD-set-other}
+use Rattle.basics.proofs.Bools.{equal-or-not}
 
--- an element of n times a is a, and so is what stands past the end
+-- what holds of the element that is repeated, and of what stands past the end, holds of each element
+pub getD-replicate-all {ℓ κ} : {A : Type ℓ} (P : A → Type κ) (n i : ℕ) (a d : A) → P d → P a → P (getD (replicate n a) i d)
+getD-replicate-all P zero i a d h k = h
+getD-replicate-all P (suc n) zero a d h k = k
+getD-replicate-all P (suc n) (suc i) a d h k = getD-replicate-all P n i a d h k
+
+-- so an element of n times a is a, and so is what stands past the end
 pub getD-replicate-same {ℓ} : {A : Type ℓ} (n i : ℕ) (a : A) → getD (replicate n a) i a ≡ a
-getD-replicate-same zero i a = refl
-getD-replicate-same (suc n) zero a = refl
-getD-replicate-same (suc n) (suc i) a = getD-replicate-same n i a
+getD-replicate-same n i a = getD-replicate-all (λ x. x ≡ a) n i a a refl refl
+
+-- what holds of the new element at its place, and of the old ones elsewhere, holds of each element of a list with one changed
+pub getD-set-all : {A : Type 0} (P : A → Type 0) (xs : List A) (c k : ℕ) (a d : A) → c < length xs → (c ≡ k → P a) → ((c ≡ k → ⊥) → P (getD xs k d))
+    → P (getD (set xs c a) k d)
+getD-set-all P xs c k a d inside here other =
+    equal-or-not c k
+    (λ e. subst (λ (j : ℕ). P (getD (set xs c a) j d)) e (subst P (sym (getD-set-same xs c a d inside)) (here e)))
+    (λ o. subst P (sym (getD-set-other xs c k a d (λ e. o (sym e)))) (other o))
 
 -- what holds of each image, and of what stands past the end, holds of each element of a mapped list
 pub getD-map-all {ℓ} : {A B : Type ℓ} (P : B → Type 0) (f : A → B) (l : List A) (i : ℕ) (d : B) → P d → ((a : A) → P (f a)) → P (getD (map f l) i d)

@@ -1,12 +1,15 @@
 pub mod Below
 pub mod Bools
 pub mod Bytes
+pub mod Each
 pub mod Elements
 pub mod Eliminated
 pub mod Elimination
 pub mod Filled
 pub mod Flags
+pub mod Listed
 pub mod Lists
+pub mod Renamed
 pub mod SamePairs
 pub mod Says
 pub mod Search

@@ -1,14 +1,14 @@
 -- What a test says: a passing test on one side, the statement that it tests on the other. Assumes nothing.
 use Prim.Native.Nat.{ℕ, _≤_, _<_}
 use mathlib.Core.Path.{_≡_, refl}
-use mathlib.Core.Logic.{_↔_, _⊎_, inl, inr, ⊎-elim}
+use mathlib.Core.Logic.{_↔_, _⊎_, inl, inr, ⊎-elim, Iff·trans}
 use mathlib.Core.Bool.{Bool, true, false, not, cond, _&&_, _||_, true≢false, false≢true}
 use mathlib.Core.List.{List, List·Memᴰ}
 use lib.Dec.{leb, ltb, eqb}
 use borrow.Author.Tests.{eqb-true, eq-eqb, leb-true, le-leb, ltb-true, lt-ltb}
 use Rattle.basics.specs.Below.{allBelow, anyBelow}
 use Rattle.basics.specs.Lists.{anyIn}
-use Rattle.basics.proofs.Bools.{clash, and-left, and-right, and-both, or-true, or-left, or-right}
+use Rattle.basics.proofs.Bools.{clash, and-left, and-right, and-both, or-true, or-left, or-right, never}
 use Rattle.basics.proofs.Below.{all-at, all-of, any-at, any-of}
 use Rattle.basics.proofs.Lists.{any-in-at, any-in-of}
 
@@ -24,11 +24,11 @@ ltb-says a b = (ltb-true a b, lt-ltb a b)
 
 -- a negated test, plainly and by what the test says
 pub not-says : (t : Bool) → (not t ≡ true) ↔ (t ≡ false)
-not-says true = (λ e. absurd (false≢true e), λ e. absurd (true≢false e))
+not-says true = (never, λ e. absurd (true≢false e))
 not-says false = (λ e. refl, λ e. refl)
 
 pub not-says-not : (t : Bool) {P : Type 0} → (t ≡ true) ↔ P → (not t ≡ true) ↔ (P → ⊥)
-not-says-not true s = (λ e. absurd (false≢true e), λ f. absurd (f (s .0 refl)))
+not-says-not true s = (never, λ f. absurd (f (s .0 refl)))
 not-says-not false s = (λ e x. false≢true (s .1 x), λ f. refl)
 
 -- both of two tests, and one of two
@@ -48,6 +48,11 @@ cond-says false passes fails = fails refl
 pub if-says : (t : Bool) {u : Bool} {P : Type 0} → (u ≡ true) ↔ P → (cond t u true ≡ true) ↔ (t ≡ true → P)
 if-says true s = (λ e q. s .0 e, λ f. s .1 (f refl))
 if-says false s = (λ e q. absurd (clash q refl), λ f. refl)
+
+-- .. or where two others pass
+pub both-says : (s t : Bool) {u : Bool} {P Q : Type 0} → (s ≡ true) ↔ P → (u ≡ true) ↔ Q → (cond (s && t) u true ≡ true) ↔ (P → t ≡ true → Q)
+both-says s t p q =
+    Iff·trans (if-says (s && t) q) (λ f i j. f (and-both s t (p .1 i) j), λ f e. f (p .0 (and-left s t e)) (and-right s t e))
 
 -- a test that is asked only where another fails
 pub unless-says : (t : Bool) {u : Bool} {P : Type 0} → (u ≡ true) ↔ P → (cond t true u ≡ true) ↔ (t ≡ false → P)

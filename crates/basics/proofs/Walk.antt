@@ -1,4 +1,4 @@
--- Walks and cycles: walks join and map, a rank that grows rules cycles out, and marks that all have marked predecessors give a cycle.
+-- Walks and cycles: walks join and map, also to other names, a rank that grows rules cycles out, and marks that all have marked predecessors give a cycle.
 -- Assumes nothing.
 use mathlib.Core.Path.{_≡_, subst}
 use mathlib.Core.Bool.{Bool, true, false}
@@ -33,13 +33,32 @@ module _ {Step : ℕ → ℕ → Type 0} where
   pub ranked-no-cycle : (rank : ℕ → ℕ) → ((a b : ℕ) → Step a b → rank a < rank b) → ¬ Cycle Step
   ranked-no-cycle rank grows c = let h = rank-grows rank grows (c .1) in omega arith
 
--- a walk maps along a map of steps
-pub map-walk : {S R : ℕ → ℕ → Type 0} → ((a b : ℕ) → S a b → R a b) → {a b : ℕ} → Walk S a b → Walk R a b
-map-walk f (last {a = a} {b = b} s) = last (f a b s)
-map-walk f (then {a = a} {b = b} s w) = then (f a b s) (map-walk f w)
+-- a walk is one among the names, if each step is
+pub names-walk : {S R : ℕ → ℕ → Type 0} (name : ℕ → ℕ) → ((a b : ℕ) → S a b → R (name a) (name b)) → {a b : ℕ} → Walk S a b
+    → Walk R (name a) (name b)
+names-walk name f (last {a = a} {b = b} s) = last (f a b s)
+names-walk name f (then {a = a} {b = b} s w) = then (f a b s) (names-walk name f w)
 
+-- a walk among names is one among those who have them, if somebody has the name to which each step leads
+module _ {S R : ℕ → ℕ → Type 0} (Has : ℕ → ℕ → Type 0) (somebody : (n o : ℕ) → R n o → (b : ℕ) × Has b o)
+    (step : (n o a b : ℕ) → R n o → Has a n → Has b o → S a b) where
+  pub named-walk : {n o a b : ℕ} → Walk R n o → Has a n → Has b o → Walk S a b
+  named-walk {a = a} {b = b} (last {a = n} {b = o} s) h k = last (step n o a b s h k)
+  named-walk {a = a} {b = b} (then {a = n} {b = o} s w) h k =
+      let x = somebody n o s in
+      then (step n o a (x .0) s h (x .1)) (named-walk w (x .1) k)
+
+-- a cycle maps along a map of steps
 pub map-cycle : {S R : ℕ → ℕ → Type 0} → ((a b : ℕ) → S a b → R a b) → Cycle S → Cycle R
-map-cycle f c = (c .0, map-walk f (c .1))
+map-cycle f c = (c .0, names-walk (λ k. k) f (c .1))
+
+-- where a step that another follows is a step of a second relation, a cycle of the first is one of the second
+walk-followed : {S R : ℕ → ℕ → Type 0} → ((a b c : ℕ) → S a b → S b c → R a b) → {a b : ℕ} → Walk S a b → (c : ℕ) → S b c → Walk R a b
+walk-followed f (last {a = a} {b = b} s) c next = last (f a b c s next)
+walk-followed f (then {a = a} {b = b} s w) c next = let n = first-step w in then (f a b (n .0) s (n .1)) (walk-followed f w c next)
+
+pub cycle-followed : {S R : ℕ → ℕ → Type 0} → ((a b c : ℕ) → S a b → S b c → R a b) → Cycle S → Cycle R
+cycle-followed f c = let n = first-step (c .1) in (c .0, walk-followed f (c .1) (n .0) (n .1))
 
 module _ (marked : ℕ → Bool) (R : ℕ → ℕ → Type 0) where
   -- somebody marked below the limit who stands before m; everybody marked has one; somebody is marked

@@ -15,7 +15,7 @@ use Rattle.rules.specs.Judging.{has-cycle, given-order}
 use Rattle.rules.specs.Cells.{cell-of, with-cell, draft-of, with-draft, laid-over}
 use Rattle.rules.specs.Daylog.{begin-kind, judged-read-kind, own-read-kind, write-kind, commit-kind, give-up-kind, read-conflict-kind, commit-conflict-kind, post-kind, no-value, commit-total, day-of}
 use Rattle.rules.specs.State.{state-of, adds, closes, log-after, buffer-after, recorded, Outcome}
-use Rattle.rules.specs.Steps.{record-at, turned-back, weighed, begin-of, write-of, own-read-of, read-books, granted-read-of, judged-read-of, read-of, commit-books, granted-commit-of, judged-commit-of, give-up-of, post-of, order-of, close-of}
+use Rattle.rules.specs.Steps.{record-at, turned-back, meets-conflict, weighed, begin-of, write-of, own-read-of, read-books, granted-read-of, judged-read-of, read-of, commit-books, granted-commit-of, judged-commit-of, give-up-of, post-of, order-of, close-of}
 use Rattle.rules.proofs.Judging.{cycle-by-places, order-by-places, order-length}
 use Rattle.recording.specs.declared.Step.{Step}
 use Rattle.recording.specs.Stepped.{step-of, changed-step}
@@ -82,12 +82,12 @@ module _ (records : ℕ) (places : List Place) (log : List ℕ) (z : Size) (i : 
   module _ (c : ℕ) (table : List ℕ) (place : p ≡ read-marked (getD places i no-place) c (records + 1)) (granted-is : as-granted ≡ changed-step 0 0 places records i p) (verdict : t ≡ has-cycle z (of-places (as-granted .places)) i) where
     pub judged-read-back : {step : Step} {after : List ℕ} → t ≡ true → Meets records (turned-back (state-of (books-of records places) [] []) read-conflict-kind i c) step log after
         → Meets records (judged-read-of z (state-of (books-of records places) table []) i c) step log after
-    unfolding judged-read-of weighed read-books turned-back recorded
+    unfolding judged-read-of weighed meets-conflict read-books turned-back recorded
     judged-read-back cycle back = rw (verdict-is records places log z i _ place granted-is verdict ∙ cycle) back
 
     pub judged-read-on : {value after : List ℕ} → t ≡ false → value ≡ cell-of table c → after ≡ log-after records (adds (record-at judged-read-kind i (getD places i no-place) c value)) log
         → Meets records (judged-read-of z (state-of (books-of records places) table []) i c) as-granted log after
-    unfolding judged-read-of weighed read-books granted-read-of recorded with-place
+    unfolding judged-read-of weighed meets-conflict read-books granted-read-of recorded with-place
     judged-read-on none value-is log-is =
         rw (verdict-is records places log z i _ place granted-is verdict ∙ none) (as-granted-is records places log z i _ place granted-is verdict, rw (log-is, value-is))
 
@@ -95,13 +95,13 @@ module _ (records : ℕ) (places : List Place) (log : List ℕ) (z : Size) (i : 
   module _ (table drafts : List ℕ) (place : p ≡ sealed (getD places i no-place) (records + 1)) (granted-is : as-granted ≡ changed-step 0 0 places records i p) (verdict : t ≡ has-cycle z (of-places (as-granted .places)) i) where
     pub commit-back : {step : Step} {after : List ℕ} → t ≡ true → Meets records (turned-back (state-of (books-of records places) [] []) commit-conflict-kind i 0) step log after
         → let o = judged-commit-of z (state-of (books-of records places) table drafts) i in (step ≡ step-of o) × ((table ≡ o .after .table) × (after ≡ log-after records (o .entry) log))
-    unfolding judged-commit-of weighed commit-books turned-back recorded
+    unfolding judged-commit-of weighed meets-conflict commit-books turned-back recorded
     commit-back cycle back = rw (verdict-is records places log z i _ place granted-is verdict ∙ cycle) (back .0, (refl, back .1))
 
     pub commit-on : {laid after : List ℕ} → t ≡ false → laid ≡ laid-over z (wrote (getD places i no-place)) (draft-of z drafts i) table
         → after ≡ log-after records (adds (record-at commit-kind i (getD places i no-place) 0 no-value)) log
         → let o = judged-commit-of z (state-of (books-of records places) table drafts) i in (as-granted ≡ step-of o) × ((laid ≡ o .after .table) × (after ≡ log-after records (o .entry) log))
-    unfolding judged-commit-of weighed commit-books granted-commit-of recorded with-place
+    unfolding judged-commit-of weighed meets-conflict commit-books granted-commit-of recorded with-place
     commit-on none laid-is log-is =
         rw (verdict-is records places log z i _ place granted-is verdict ∙ none) (as-granted-is records places log z i _ place granted-is verdict, (laid-is, log-is))
 
@@ -114,7 +114,7 @@ module _ (records : ℕ) (places : List Place) (log : List ℕ) (z : Size) (i c 
 
   pub read-judged : wrote (getD places i no-place) c ≡ false → Meets records (judged-read-of z (state-of (books-of records places) table []) i c) step log after
       → Meets records (read-of z (state-of (books-of records places) table drafts) i c) step log after
-  unfolding read-of judged-read-of weighed turned-back granted-read-of recorded
+  unfolding read-of judged-read-of weighed meets-conflict turned-back granted-read-of recorded
   read-judged other judged =
       rw other (split (has-cycle z (read-books z (books-of records places) i c) i) (λ e. rw e (rw e at judged)) (λ e. rw e (rw e at judged)))
 

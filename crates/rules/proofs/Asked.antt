@@ -114,7 +114,7 @@ module _ (z : Size) (b : Books) (h : ℕ) (s : Sound z b) where
     unfolding is-stale
     with-turn = not-false _ (or-false-right (is-free (place-at b (place-of h))) _ (or-false-right (out-of-range z h) _ e))
 
-    held-asked : HeldCaller z b h
+    pub held-asked : HeldCaller z b h
     unfolding out-of-range turn-agrees
     held-asked =
         let p = place-at b (place-of h) in

@@ -12,7 +12,7 @@ use native.Mathlib.Omega.{arith}
 use borrow.Author.Tests.{eqb-true, eq-eqb, ne-eqb, ltb-true, lt-ltb, not-true}
 use Rattle.basics.specs.Lists.{allIn, anyIn, member, distinct}
 use Rattle.basics.proofs.Bools.{split, clash, false-of-not, true-of-not, same-tests, and-left, and-right, and-both, and-swap, and-fails-left, and-fails-right, or-true, or-left, or-right, or-fails, or-false-right, cond-passes, cond-fails, equal-or-not}
-use Rattle.basics.proofs.Lists.{all-in-at, all-in-of, all-in-cong, any-in-at, any-in-fails, any-in-false}
+use Rattle.basics.proofs.Lists.{all-in-cong, any-in-at, any-in-fails, any-in-false}
 use Rattle.rules.specs.declared.Record.{Record}
 use Rattle.rules.specs.Sizes.{Size}
 use Rattle.rules.specs.Daylog.{kind-starts, kind-commits}
@@ -22,17 +22,18 @@ use Rattle.rules.specs.Checker.{lists-company}
 use Rattle.rules.proofs.InTime.{has-stranger, no-stranger, in-company}
 use Rattle.rules.proofs.Seats.{walks-earlier}
 use Rattle.rules.proofs.Day.{event-cases, number-bounds, whose-starts, who-bound, who-transaction}
-use Rattle.rules.proofs.Commits.{commits-last, committed-by, commit-event, commit-of-event, latest-none, moment-at-most}
+use Rattle.rules.proofs.Commits.{committed-by, committed-ends, commit-event, commit-of-event, latest-none, moment-at-most}
+use Rattle.rules.proofs.CompanyListed.{complete-says}
 
 -- ---- the moment
 
 -- the kinds that set the moment
 module _ (k : ℕ) where
-  sets-starts : kind-starts k ≡ true → sets-moment k ≡ true
+  pub sets-starts : kind-starts k ≡ true → sets-moment k ≡ true
   unfolding sets-moment
   sets-starts e = or-left (kind-starts k) (moves-moment k || kind-commits k) e
 
-  sets-moves : moves-moment k ≡ true → sets-moment k ≡ true
+  pub sets-moves : moves-moment k ≡ true → sets-moment k ≡ true
   unfolding sets-moment
   sets-moves e = or-right (kind-starts k) (moves-moment k || kind-commits k) (or-left (moves-moment k) (kind-commits k) e)
 
@@ -53,12 +54,7 @@ none-yet test earlier t h =
 
 -- a record's transaction has not committed before it
 pub uncommitted : (z : Size) (r : Record) (earlier : List Record) → walks z (r ∷ earlier) ≡ true → committed (events earlier) (whose earlier r) ≡ false
-unfolding committed
-uncommitted z r earlier w =
-    let t = whose earlier r in
-    any-in-fails (λ e. eqb (e .who) t && kind-commits (e .kind)) (events earlier) λ e m.
-    false-of-not (eqb (e .who) t && kind-commits (e .kind)) λ p.
-    commits-last z r earlier w m (and-right (eqb (e .who) t) (kind-commits (e .kind)) p) (eqb-true (e .who) t (and-left (eqb (e .who) t) (kind-commits (e .kind)) p))
+uncommitted z r earlier w = false-of-not _ (λ c. committed-ends z r earlier (whose earlier r) w c refl)
 
 -- the moment after one more record
 pub moment-more : (z : Size) (t : ℕ) (r : Record) (earlier : List Record) → walks z (r ∷ earlier) ≡ true
@@ -249,47 +245,23 @@ module _ (z : Size) (t : ℕ) (day : List Record) (w : walks z day ≡ true) (kn
       let stands = in-company es t k in
       same-tests (itself && stands) stands (and-right itself stands) (λ h. and-both itself stands (company-transaction k h) h)
 
-  module _ (order : List ℕ) where
-    -- the test that a transaction of the company is listed
-    abbrev listed-if : Event → Bool
-    listed-if e = cond (kind-starts (e .kind) && company-of es t (e .number)) (member (e .number) order) true
-
-    -- who is in the company is listed, if everybody is
-    complete-lists : allIn listed-if es ≡ true → (k : ℕ) → in-company es t k ≡ true → member k order ≡ true
-    unfolding is-transaction
-    complete-lists a k h =
-        let x = any-in-at (λ e. eqb (e .number) k && kind-starts (e .kind)) es (company-transaction k h) in
-        let e = x .0 in
-        let same = eqb-true (e .number) k (and-left (eqb (e .number) k) (kind-starts (e .kind)) (x .2)) in
-        let starts = and-right (eqb (e .number) k) (kind-starts (e .kind)) (x .2) in
-        let within = ap (company-of es t) same ∙ company-is k ∙ h in
-        ap (λ n. member n order) (sym same)
-        ∙ sym (cond-passes _ _ (and-both (kind-starts (e .kind)) (company-of es t (e .number)) starts within))
-        ∙ all-in-at listed-if es a (x .1)
-
-    -- everybody is, exactly if t is and nobody unlisted commits before the moment
-    complete-of : member t order ≡ true → no-stranger t order es ≡ true → allIn listed-if es ≡ true
-    complete-of m n =
-        all-in-of listed-if es λ e i.
-        let stands = kind-starts (e .kind) && company-of es t (e .number) in
-        split stands
-        (λ s.
-        cond-passes _ _ s
-        ∙ ⊎-elim (λ q. ap (λ k. member k order) q ∙ m)
-        (λ x. ap (λ k. member k order) (sym (x .3)) ∙ no-stranger-says order t z day w known .0 n (x .0) (x .1) (x .2) (x .4))
-        (company-cases t day (e .number) (sym (company-is (e .number)) ∙ and-right (kind-starts (e .kind)) _ s)))
-        (λ s. cond-fails _ _ s)
-
-    complete-is : allIn listed-if es ≡ member t order && no-stranger t order es
-    unfolding in-company
-    complete-is =
-        let it = member t order in
-        let none = no-stranger t order es in
-        same-tests (allIn listed-if es) (it && none)
-        (λ a.
-        and-both it none (complete-lists a t (or-left (eqb t t) _ (eq-eqb t t refl)))
-        (no-stranger-says order t z day w known .1 (λ e m c b. complete-lists a (e .who) (company-early z t day w m c b))))
-        (λ h. complete-of (and-left it none h) (and-right it none h))
+  -- everybody of the company is listed, exactly if t is and nobody unlisted commits before the moment
+  complete-is : (order : List ℕ)
+      → allIn (λ e. cond (kind-starts (e .kind) && company-of es t (e .number)) (member (e .number) order) true) es ≡ member t order && no-stranger t order es
+  unfolding in-company
+  complete-is order =
+      let it = member t order in
+      let none = no-stranger t order es in
+      let complete = complete-says day t order in
+      same-tests _ (it && none)
+      (λ a.
+      let lists : (k : ℕ) → in-company es t k ≡ true → member k order ≡ true = λ k h. complete .0 a k (company-is k ∙ h) in
+      and-both it none (lists t (or-left (eqb t t) _ (eq-eqb t t refl)))
+      (no-stranger-says order t z day w known .1 (λ e m c b. lists (e .who) (company-early z t day w m c b))))
+      (λ h. complete .1 λ k c.
+      ⊎-elim (λ q. ap (λ j. member j order) q ∙ and-left it none h)
+      (λ x. ap (λ j. member j order) (sym (x .3)) ∙ no-stranger-says order t z day w known .0 (and-right it none h) (x .0) (x .1) (x .2) (x .4))
+      (company-cases t day k (sym (company-is k) ∙ c)))
 
 -- a list is the company of a transaction exactly if the transaction is listed, all listed are of its company, and nobody unlisted commits
 -- before the moment

@@ -18,7 +18,7 @@ use Rattle.rules.specs.Judging.{has-cycle}
 use Rattle.rules.specs.Numbers.{granted, conflict, Reason, first-reason}
 use Rattle.rules.specs.Daylog.{read-conflict-kind, commit-conflict-kind}
 use Rattle.rules.specs.State.{State, Outcome, refused, unless-refused, recorded}
-use Rattle.rules.specs.Steps.{soundness-reason, handle-reasons, cell-reason, handle-cell-reasons, room-reason, begin-reasons, write-reasons, read-reasons, commit-reasons, give-up-reasons, post-reasons, order-reasons, close-reasons, read-books, commit-books, turned-back, weighed, own-read-of, granted-read-of, judged-read-of, granted-commit-of, judged-commit-of, open-rule, begin-rule, write-rule, read-rule, commit-rule, give-up-rule, post-rule, order-rule, close-rule, read-of, begin-of, write-of, give-up-of, post-of, order-of, close-of}
+use Rattle.rules.specs.Steps.{soundness-reason, handle-reasons, cell-reason, handle-cell-reasons, room-reason, begin-reasons, write-reasons, read-reasons, commit-reasons, give-up-reasons, post-reasons, order-reasons, close-reasons, read-books, commit-books, turned-back, meets-conflict, weighed, own-read-of, granted-read-of, judged-read-of, granted-commit-of, judged-commit-of, open-rule, begin-rule, write-rule, read-rule, commit-rule, give-up-rule, post-rule, order-rule, close-rule, read-of, begin-of, write-of, give-up-of, post-of, order-of, close-of}
 use Rattle.rules.specs.Calls.{Call, Open, Begin, Write, Read, Show, Commit, GiveUp, Post, Order, Close, Lending, issued}
 use Rattle.rules.specs.Statements.{TurnsBack, ReadConflict, CommitConflict, can-answer-nine, Conflicts}
 use Rattle.rules.proofs.Judging.{given-orders}
@@ -93,7 +93,7 @@ module _ (z : Size) (l : Lending) (s : State) (h : ℕ) where
   commit-cycle = has-cycle z (commit-books z (s .books) i) i
 
   commit-conflict : CommitConflict z l s h
-  unfolding issued commit-rule judged-commit-of weighed turned-back granted-commit-of recorded
+  unfolding issued commit-rule judged-commit-of weighed meets-conflict turned-back granted-commit-of recorded
   commit-conflict =
       let back = turned-back s commit-conflict-kind i 0 in
       let on = granted-commit-of z s i in
@@ -119,7 +119,7 @@ module _ (z : Size) (l : Lending) (s : State) (h : ℕ) where
     read-cycle = has-cycle z (read-books z (s .books) i c) i
 
     read-conflict : ReadConflict z l s h c
-    unfolding issued read-rule read-of judged-read-of weighed turned-back granted-read-of own-read-of recorded
+    unfolding issued read-rule read-of judged-read-of weighed meets-conflict turned-back granted-read-of own-read-of recorded
     read-conflict =
         let w = wrote (place-at (s .books) i) c in
         let own = own-read-of z s i c in

@@ -3,12 +3,12 @@
 use Prim.Native.Nat.{ℕ, zero, suc, _≤_, _<_}
 use mathlib.Core.Path.{_≡_, refl}
 use mathlib.Core.Logic.{_↔_, _≢_}
-use mathlib.Core.Bool.{Bool, true, false, not, cond, _&&_, _||_, false≢true, or-false}
+use mathlib.Core.Bool.{Bool, true, false, not, cond, _&&_, _||_, or-false}
 use mathlib.Core.List.{[], _∷_}
 use lib.Dec.{eqb}
 use native.Mathlib.Omega.{arith}
 use borrow.Author.Tests.{le-leb}
-use Rattle.basics.proofs.Bools.{split}
+use Rattle.basics.proofs.Bools.{split, never}
 use Rattle.rules.specs.declared.Place.{Place}
 use Rattle.rules.specs.Sizes.{Size, turns, handles, handles-a-turn}
 use Rattle.rules.specs.Books.{Books, place-at, is-free, is-committed, next-turn}
@@ -56,7 +56,7 @@ last-turn-wraps = refl
 -- one of two numbers is the first exactly if the test passes, where the second is another
 picks-first : (t : Bool) {a x : ℕ} → x ≢ a → (cond t a x ≡ a) ↔ (t ≡ true)
 picks-first true h = (λ e. refl, λ e. refl)
-picks-first false h = (λ e. absurd (h e), λ e. absurd (false≢true e))
+picks-first false h = (λ e. absurd (h e), never)
 
 -- one of two numbers that are not a third is not the third
 picks-neither : (t : Bool) {a x y : ℕ} → x ≢ a → y ≢ a → cond t x y ≢ a
@@ -89,8 +89,8 @@ gate-free c s = picks-first (eqb s 0) (picks-neither (eqb s 1) (λ e. omega arit
 -- it says 4 exactly if the place is committed, for every call but order
 gate-four : (c : Caller) → c ≢ orders → (s : ℕ) → s ≤ 2 → (gate c s ≡ ended) ↔ (eqb s 2 ≡ true)
 unfolding gate
-gate-four c other zero k = (λ e. absurd (omega arith), λ e. absurd (false≢true e))
-gate-four c other (suc zero) k = (λ e. absurd (omega arith), λ e. absurd (false≢true e))
+gate-four c other zero k = (λ e. absurd (omega arith), never)
+gate-four c other (suc zero) k = (λ e. absurd (omega arith), never)
 gate-four c other (suc (suc zero)) k = (λ e. refl, λ e. committed-ended c other)
 gate-four c other (suc (suc (suc s))) k = absurd (omega arith)
 

@@ -32,7 +32,7 @@ module _ (z : Size) (b : Books) (i : ℕ) where
   test-of-cycle c = rw (cycle-not-all (z .places) (stands-before z b) begin-of (company z b i) c)
 
   -- everybody in the company is held, where place i is: a place that is not held passes no test of being live or committed
-  company-held : is-held (place-at b i) ≡ true → (k : ℕ) → company z b i k ≡ true → is-held (place-at b k) ≡ true
+  pub company-held : is-held (place-at b i) ≡ true → (k : ℕ) → company z b i k ≡ true → is-held (place-at b k) ≡ true
   unfolding company
   company-held held k e =
       ⊎-elim (λ same. rw (eqb-true k i same) held)

@@ -1,68 +1,51 @@
 -- A list of transactions keeps the pairs of a day exactly if, record by record, nobody listed comes to stand before one that is listed earlier.
 -- Rests on the pairs that arise with one event, and on the laws of events and commits. Assumes nothing.
-use Prim.Native.Nat.{ℕ, suc, _≤_, _<_}
+use Prim.Native.Nat.{ℕ, suc, _≤_}
 use mathlib.Core.Path.{_≡_, refl, _∙_, ap}
-use mathlib.Core.Logic.{⊎-elim}
 use mathlib.Core.Bool.{true, false, _&&_}
-use mathlib.Core.List.{List, [], _∷_, List·Memᴰ, List·Memᴰ·head, List·Memᴰ·not-nil}
+use mathlib.Core.List.{List, [], _∷_, List·Memᴰ·head}
 use lib.ListN.{length}
 use lib.Dec.{eqb}
 use native.Mathlib.Omega.{arith}
-use borrow.Author.Tests.{eqb-true}
 use Rattle.basics.specs.Lists.{allIn, anyIn, distinct, keeps}
-use Rattle.basics.proofs.Bools.{false-of-not, and-left, and-right, and-fails-right, or-left}
-use Rattle.basics.proofs.Lists.{all-in-at, any-in-at, member-at, keeps-cong, keeps-or, keeps-nobody, distinct-keeps-cong}
+use Rattle.basics.proofs.Bools.{and-fails-right}
+use Rattle.basics.proofs.Lists.{all-in-at, member-at, keeps-cong, keeps-or, keeps-nobody, distinct-keeps-cong}
 use Rattle.rules.specs.declared.Record.{Record}
 use Rattle.rules.specs.Sizes.{Size}
-use Rattle.rules.specs.Daylog.{judged-read-kind, kind-starts, kind-has-value, kind-has-cell, kind-judged-read}
-use Rattle.rules.specs.Layout.{walks, fields-right, FieldsRight}
-use Rattle.rules.specs.Day.{Event, whose, event, events, is-transaction, day-before}
+use Rattle.rules.specs.Daylog.{kind-starts}
+use Rattle.rules.specs.Layout.{walks}
+use Rattle.rules.specs.Day.{whose, event, events, is-transaction, day-before}
 use Rattle.rules.proofs.Seats.{walks-earlier}
-use Rattle.rules.proofs.LaidOut.{fields-says}
-use Rattle.rules.proofs.Day.{event-cases, number-bounds, whose-starts, who-transaction}
-use Rattle.rules.proofs.Commits.{committed-ends, commit-at-most}
+use Rattle.rules.proofs.CompanyInTime.{uncommitted}
+use Rattle.rules.proofs.Settled.{read-known}
+use Rattle.rules.proofs.Day.{number-bounds, whose-starts, started, who-transaction}
+use Rattle.rules.proofs.Commits.{commit-at-most}
 use Rattle.rules.proofs.InTime.{arises, pairs-in-time}
 use Rattle.rules.proofs.PairsArise.{Newest, begun-before, one-more}
 
 -- a transaction that has begun did so with one of the records
 pub transaction-bound : (day : List Record) (t : ℕ) → is-transaction (events day) t ≡ true → t ≤ length day
-unfolding is-transaction
-transaction-bound day t q =
-    let x = any-in-at (λ e. eqb (e .number) t && kind-starts (e .kind)) (events day) q in
-    omega (arith, number-bounds day (x .1), eqb-true (x .0 .number) t (and-left (eqb (x .0 .number) t) _ (x .2)))
+transaction-bound day t q = let x = started day t q in omega (arith, number-bounds day (x .1), x .3)
 
 module _ (z : Size) where
-  -- a cell that an event uses is a cell of the table
-  pub cell-known : (day : List Record) {e : Event} → walks z day ≡ true → List·Memᴰ e (events day) → kind-has-cell (e .kind) ≡ true → e .cell < z .cells
-  unfolding events event walks
-  cell-known [] w m c = absurd (List·Memᴰ·not-nil m)
-  cell-known (r ∷ earlier) {e} w m c =
-      ⊎-elim (λ q. rw q (fields .cell-known (rw q at c))) (λ i. cell-known earlier (and-left (walks z earlier) _ w) i c) (event-cases r earlier m)
-    where
-      fields : FieldsRight z r
-      fields = fields-says z r .0 (and-left (fields-right z r) _ (and-right (walks z earlier) _ w))
-
   -- what is known of the newest event of a day that walks
   pub newest : (r : Record) (earlier : List Record) → walks z (r ∷ earlier) ≡ true → Newest z (events earlier) (event earlier r)
-  unfolding event events is-transaction anyIn kind-judged-read kind-has-value kind-has-cell
+  unfolding event events is-transaction anyIn
   newest r earlier w =
       record {
         newer = λ i. omega (arith, number-bounds earlier i);
         newer-than-commit = λ t. omega (arith, commit-at-most earlier t);
         newer-than-begin = λ t q. omega (arith, transaction-bound earlier t q);
-        unsealed = false-of-not _ (λ c. committed-ends z r earlier (whose earlier r) w c refl);
+        unsealed = uncommitted z r earlier w;
         started = whose-starts earlier r;
         begun = begun-there;
-        cells-known = λ {f} i j. cell-known earlier (walks-earlier z r earlier w .0) i (reads-cell (f .kind) j);
+        cells-known = read-known z earlier (walks-earlier z r earlier w .0);
       }
     where
       begun-there : kind-starts (r .kind) ≡ false → is-transaction (events earlier) (whose earlier r) ≡ true
       begun-there s =
           let told = who-transaction z (r ∷ earlier) w (List·Memᴰ·head refl) in
           rw (s, and-fails-right (eqb (suc (length earlier)) (whose earlier r)) false refl) at told
-
-      reads-cell : (k : ℕ) → kind-judged-read k ≡ true → kind-has-cell k ≡ true
-      reads-cell k j = or-left (kind-has-value k) _ (or-left (eqb k judged-read-kind) _ j)
 
   -- the list keeps the pairs with those who have begun exactly if it keeps those that arise with each event
   begun-told : (order : List ℕ) (day : List Record) → walks z day ≡ true → distinct order ≡ true

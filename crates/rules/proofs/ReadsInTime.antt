@@ -13,9 +13,10 @@ use borrow.Author.Tests.{eqb-true, eq-eqb, ne-eqb, ltb-true, ltb-false, lt-ltb}
 use Rattle.basics.specs.Lists.{allIn, member, distinct, keeps}
 use Rattle.basics.specs.Bytes.{same}
 use Rattle.basics.proofs.Below.{any-of}
-use Rattle.basics.proofs.Bools.{split, clash, same-tests, and-left, and-right, and-both, or-left, or-right, equal-or-not, cond-passes, cond-fails}
+use Rattle.basics.proofs.Bools.{split, clash, same-tests, and-left, and-both, or-left, or-right, equal-or-not, cond-passes, cond-fails}
 use Rattle.basics.proofs.Lists.{all-in-at, all-in-of, any-in-of, member-nil, member-head, member-tail, member-cases, member-rest, keeps-nil, keeps-cons, keeps-head, keeps-tail, distinct-head, distinct-tail}
-use Rattle.basics.proofs.Says.{and-says, if-says}
+use Rattle.basics.proofs.Each.{each-none, each-cons}
+use Rattle.basics.proofs.Says.{eqb-says, and-says, both-says}
 use Rattle.rules.specs.declared.Record.{Record}
 use Rattle.rules.specs.Sizes.{Size}
 use Rattle.rules.specs.Daylog.{judged-read-kind, kind-commits, kind-judged-read}
@@ -216,24 +217,15 @@ module _ (opening : List ℕ) (order : List ℕ) where
       ↔ ((reads-in-time opening order (events earlier) ≡ true) × (member (whose earlier r) order ≡ true → ReadRight earlier r))
   unfolding reads-in-time events event
   newest-in-time r earlier =
-      let listed = member (whose earlier r) order in
-      let reads = kind-judged-read (r .kind) in
-      and-says Iff·rfl
-      (Iff·trans (if-says (listed && reads) Iff·rfl) (λ f i j. f (and-both listed reads i j), λ f t. f (and-left listed reads t) (and-right listed reads t)))
-
-  in-time-before : (later earlier : List Record) → reads-in-time opening order (events (later ++ earlier)) ≡ true
-      → reads-in-time opening order (events earlier) ≡ true
-  in-time-before [] earlier e = e
-  in-time-before (r ∷ later) earlier e = in-time-before later earlier (newest-in-time r (later ++ earlier) .0 e .0)
-
-  in-time-of-each : (day : List Record) → ReadsRight order day → reads-in-time opening order (events day) ≡ true
-  unfolding reads-in-time events
-  in-time-of-each [] f = refl
-  in-time-of-each (r ∷ earlier) f =
-      newest-in-time r earlier .1 (in-time-of-each earlier (λ later before s q. f (r ∷ later) before s (ap (λ rs. r ∷ rs) q)), f [] earlier r refl)
+      and-says Iff·rfl (both-says (member (whose earlier r) order) (kind-judged-read (r .kind)) Iff·rfl Iff·rfl)
 
   pub in-time-says : (day : List Record) → (reads-in-time opening order (events day) ≡ true) ↔ ReadsRight order day
-  in-time-says day = (λ e later earlier r q. newest-in-time r earlier .0 (in-time-before later (r ∷ earlier) (rw q at e)) .1, in-time-of-each day)
+  unfolding reads-in-time events
+  in-time-says [] = (λ e. each-none (λ earlier r. member (whose earlier r) order ≡ true → ReadRight earlier r), λ f. refl)
+  in-time-says (r ∷ earlier) =
+      let rest = in-time-says earlier in
+      let whole = each-cons (λ earlier r. member (whose earlier r) order ≡ true → ReadRight earlier r) r earlier in
+      Iff·trans (newest-in-time r earlier) (λ s. whole .1 (s .1, rest .0 (s .0)), λ f. let s = whole .0 f in (rest .1 (s .1), s .0))
 
 module _ (z : Size) (opening : List ℕ) (order : List ℕ) (day : List Record) (w : walks z day ≡ true) where
   -- what the test of a list says of one event
@@ -245,14 +237,9 @@ module _ (z : Size) (opening : List ℕ) (order : List ℕ) (day : List Record) 
       → (carries before m (event earlier r) ≡ true) ↔ (whose earlier r ≡ m → ReadRight opening order earlier r)
   unfolding event
   carries-say before m later p newer earlier r q =
-      let own = eqb (whose earlier r) m in
-      let reads = kind-judged-read (r .kind) in
-      Iff·trans (if-says (own && reads) Iff·rfl) (
-        λ f o j. sym (ap (same (r .value)) (there o j)) ∙ f (and-both own reads (eq-eqb (whose earlier r) m o) j),
-        λ f t.
-            let o = eqb-true (whose earlier r) m (and-left own reads t) in
-            let j = and-right own reads t in
-            ap (same (r .value)) (there o j) ∙ f o j,
+      Iff·trans (both-says (eqb (whose earlier r) m) (kind-judged-read (r .kind)) (eqb-says (whose earlier r) m) Iff·rfl) (
+        λ f o j. sym (ap (same (r .value)) (there o j)) ∙ f o j,
+        λ f o j. ap (same (r .value)) (there o j) ∙ f o j,
       )
     where
       there : whose earlier r ≡ m → kind-judged-read (r .kind) ≡ true

@@ -1,23 +1,26 @@
 -- What a committed transaction did is settled: in a day that walks its commit is its last event, so its commit, its cells and their values stay
--- as they are past any later record; and the commits of two transactions differ. Assumes nothing.
+-- as they are past any later record; and the commits of two transactions differ. Before that, where the events of a day stand and which cells they use.
+-- Assumes nothing.
 use Prim.Native.Nat.{ℕ, _≤_, _<_}
 use mathlib.Core.Path.{_≡_, refl, sym, _∙_, ap, subst}
-use mathlib.Core.Logic.{⊎-elim}
-use mathlib.Core.Bool.{Bool, true, _&&_}
+use mathlib.Core.Logic.{_↔_, ⊎-elim, Iff·rfl, Iff·symm, Iff·trans, Iff·and}
+use mathlib.Core.Bool.{true, _&&_}
 use mathlib.Core.List.{List, [], _∷_, _++_, List·Memᴰ, List·Memᴰ·not-nil}
 use lib.ListN.{length, length-append}
 use lib.Dec.{eqb}
 use native.Mathlib.Omega.{arith}
-use borrow.Author.Tests.{eqb-true, eq-eqb, ne-eqb}
+use borrow.Author.Tests.{ne-eqb}
 use Rattle.basics.specs.Lists.{anyIn}
-use Rattle.basics.proofs.Bools.{and-left, and-right, and-both}
-use Rattle.basics.proofs.Lists.{any-in-of, any-in-at}
-use Rattle.basics.proofs.Says.{eqb-says, or-says}
+use Rattle.basics.proofs.Bools.{or-left}
+use Rattle.basics.proofs.Each.{each-none, each-cons}
+use Rattle.basics.proofs.Lists.{any-in-at}
+use Rattle.basics.proofs.Says.{eqb-says, and-says, or-says}
 use Rattle.rules.specs.declared.Record.{Record}
 use Rattle.rules.specs.Sizes.{Size}
-use Rattle.rules.specs.Daylog.{write-kind, post-kind, kind-commits, kind-writes, kind-has-value, kind-has-cell}
-use Rattle.rules.specs.Layout.{walks}
-use Rattle.rules.specs.Day.{Event, whose, event, events, latest, commit-of, committed, wrote-cell, written-value}
+use Rattle.rules.specs.Daylog.{judged-read-kind, write-kind, post-kind, kind-commits, kind-writes, kind-judged-read, kind-has-value, kind-has-cell}
+use Rattle.rules.specs.Layout.{walks, EachRecord}
+use Rattle.rules.specs.Day.{Event, event, events, latest, commit-of, committed, wrote-cell, written-value}
+use Rattle.rules.specs.History.{EachEvent}
 use Rattle.rules.proofs.Seats.{walks-earlier}
 use Rattle.rules.proofs.Day.{event-cases, event-in, number-bounds, event-unique}
 use Rattle.rules.proofs.Commits.{commits-last, commit-event, committed-by, committed-ends}
@@ -47,24 +50,43 @@ event-earlier (r ∷ later) earlier m h =
     ⊎-elim (λ q. let n = ap (λ f. f .number) q in absurd (omega (arith, length-append later earlier)))
     (λ k. event-earlier later earlier k h) (event-cases r (later ++ earlier) m)
 
--- a written cell is a cell of the table
+-- a statement of each event of a day is one of each record
+pub each-event : (P : List Event → Event → Type 0) (day : List Record)
+    → EachEvent P (events day) ↔ EachRecord (λ earlier r. P (events earlier) (event earlier r)) day
+unfolding events
+each-event P [] = (λ f. each-none (λ earlier r. P (events earlier) (event earlier r)), λ f. each-none P)
+each-event P (r ∷ earlier) =
+    Iff·trans (each-cons P (event earlier r) (events earlier))
+    (Iff·trans (Iff·and Iff·rfl (each-event P earlier)) (Iff·symm (each-cons (λ before s. P (events before) (event before s)) r earlier)))
+
+-- ---- the cells of events
+
+-- a judged read uses its cell, and so does a write
+reads-have-cell : (k : ℕ) → kind-judged-read k ≡ true → kind-has-cell k ≡ true
+unfolding kind-judged-read kind-has-value kind-has-cell
+reads-have-cell k j = or-left (kind-has-value k) _ (or-left (eqb k judged-read-kind) _ j)
+
 writes-have-cell : (k : ℕ) → kind-writes k ≡ true → kind-has-cell k ≡ true
 unfolding kind-writes kind-has-cell kind-has-value
 writes-have-cell k w = ⊎-elim (ap kind-has-cell) (ap kind-has-cell) (or-says (eqb-says k write-kind) (eqb-says k post-kind) .0 w)
 
+-- a cell that an event uses is a cell of the table
+module _ (z : Size) (day : List Record) (w : walks z day ≡ true) where
+  cell-known : {e : Event} → List·Memᴰ e (events day) → kind-has-cell (e .kind) ≡ true → e .cell < z .cells
+  unfolding event
+  cell-known {e} m =
+      let s = event-split day m in
+      subst (λ (f : Event). kind-has-cell (f .kind) ≡ true → f .cell < z .cells) (sym (s .4)) (walks-says z day .0 w .0 (s .0) (s .2) (s .1) (s .3) .cell-known)
+
+  pub read-known : {e : Event} → List·Memᴰ e (events day) → kind-judged-read (e .kind) ≡ true → e .cell < z .cells
+  read-known {e} m j = cell-known m (reads-have-cell (e .kind) j)
+
 pub written-known : (z : Size) (day : List Record) (k c : ℕ) → walks z day ≡ true → wrote-cell (events day) k c ≡ true → c < z .cells
-unfolding wrote-cell event
+unfolding wrote-cell
 written-known z day k c w h =
-    let writes-it : Event → Bool = λ e. eqb (e .who) k && (kind-writes (e .kind) && eqb (e .cell) c) in
-    let x = any-in-at writes-it (events day) h in
-    let e = x .0 in
-    let s = event-split day (x .1) in
-    let t = and-right (eqb (e .who) k) (kind-writes (e .kind) && eqb (e .cell) c) (x .2) in
-    let writes = rw (s .4) at (and-left (kind-writes (e .kind)) (eqb (e .cell) c) t) in
-    let cell : e .cell ≡ c = eqb-true (e .cell) c (and-right (kind-writes (e .kind)) (eqb (e .cell) c) t) in
-    let there : e .cell ≡ s .1 .cell = ap (λ f. f .cell) (s .4) in
-    let known = walks-says z day .0 w .0 (s .0) (s .2) (s .1) (s .3) .cell-known (writes-have-cell (s .1 .kind) writes) in
-    omega arith
+    let x = any-in-at (λ e. eqb (e .who) k && (kind-writes (e .kind) && eqb (e .cell) c)) (events day) h in
+    let says = and-says (eqb-says (x .0 .who) k) (and-says Iff·rfl (eqb-says (x .0 .cell) c)) .0 (x .2) in
+    subst (λ (d : ℕ). d < z .cells) (says .1 .1) (cell-known z day w (x .1) (writes-have-cell (x .0 .kind) (says .1 .0)))
 
 -- ---- the committing event
 
@@ -101,6 +123,15 @@ pub record Unchanged (es es′ : List Event) (k : ℕ) : Type 0 where
 
 pub unchanged : (es : List Event) (k : ℕ) → Unchanged es es k
 unchanged es k = record { same-committed = refl; same-commit = refl; same-wrote = λ c. refl; same-value = λ c. refl }
+
+pub unchanged-back : {es es′ : List Event} {k : ℕ} → Unchanged es es′ k → Unchanged es′ es k
+unchanged-back u =
+    record {
+      same-committed = sym (u .same-committed);
+      same-commit = sym (u .same-commit);
+      same-wrote = λ c. sym (u .same-wrote c);
+      same-value = λ c. sym (u .same-value c);
+    }
 
 -- so past an event of another
 pub unchanged-past : (es es′ : List Event) (k : ℕ) (e : Event) → (e .who ≡ k → ⊥) → Unchanged es es′ k → Unchanged es (e ∷ es′) k

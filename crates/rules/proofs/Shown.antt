@@ -16,7 +16,7 @@ use Rattle.rules.specs.Judging.{has-cycle}
 use Rattle.rules.specs.Cells.{cell-of, draft-of}
 use Rattle.rules.specs.Numbers.{granted, first-reason}
 use Rattle.rules.specs.State.{State, Outcome, shown-bytes, shown-draft, shown-cell, refused, recorded, unless-refused}
-use Rattle.rules.specs.Steps.{number-of, weighed, turned-back, read-books, own-read-of, granted-read-of, judged-read-of, read-of, read-rule, soundness-reason, handle-reasons, cell-reason, handle-cell-reasons, show-reasons, show-rule, show-of}
+use Rattle.rules.specs.Steps.{number-of, meets-conflict, weighed, turned-back, read-books, own-read-of, granted-read-of, judged-read-of, read-of, read-rule, soundness-reason, handle-reasons, cell-reason, handle-cell-reasons, show-reasons, show-rule, show-of}
 use Rattle.rules.specs.Calls.{Show, Lending, issued}
 use Rattle.rules.specs.Kept.{LiveCaller, ReadAsked, ShowAsked, ShowsRecorded, ShownIsRecorded}
 use Rattle.rules.proofs.Asked.{read-asked}
@@ -24,7 +24,7 @@ use Rattle.rules.proofs.EachCall.{EachOutcome, refused-or, one-of}
 use Rattle.rules.proofs.Handles.{place-of-below, ended-is-committed}
 use Rattle.rules.proofs.Shape.{place-at-same}
 use Rattle.rules.proofs.Sound.{sound-says}
-use Rattle.rules.proofs.SoundAfter.{sound-each}
+use Rattle.rules.proofs.SoundAfter.{sound-each, sound-read}
 
 -- ---- no reason applies
 
@@ -84,7 +84,7 @@ module _ (z : Size) (l : Lending) (h c : ℕ) (s : State) (w : Within z) (shape 
         cell = asked .cell;
       }
 
-  sound-then : EachOutcome z l s (λ o. Sound z (o .after .books))
+  sound-then : EachOutcome z l s (λ c o. Sound z (o .after .books))
   sound-then = sound-each z l s shape w (asked .caller .books)
 
   -- a written cell: the draft is recorded and shown
@@ -101,7 +101,7 @@ module _ (z : Size) (l : Lending) (h c : ℕ) (s : State) (w : Within z) (shape 
   judged-shown other =
       let o = granted-read-of z s i c in
       let here = place-at-same i (read-marked p c (number-of (s .books))) shape (place-of-below h) in
-      let good = sound-then .on-read h c asked other in
+      let good = sound-read z l s shape w (asked .caller .books) h c asked in
       let first = shows z l h c (o .after) (still-asked (o .after .books) good (ap (λ q. q .status) here) (ap (λ q. q .turn) here)) in
       record { recorded = _; added = refl; value = ap (shown-bytes (s .drafts) (s .table)) first ∙ rw (here, other) }
 
@@ -111,7 +111,7 @@ IfGranted z l h c o = o .number ≡ granted → ShowsRecorded z l h c o
 
 read-shown : (z : Size) (l : Lending) (h c : ℕ) (s : State) → Within z → Shaped (s .books)
     → ReadAsked z (length (s .table)) (length (s .drafts)) (l .log) (s .books) h c → IfGranted z l h c (read-of z s (place-of h) c)
-unfolding read-of judged-read-of weighed turned-back recorded
+unfolding read-of judged-read-of weighed meets-conflict turned-back recorded
 read-shown z l h c s w shape asked =
     one-of (IfGranted z l h c) (wrote (place-at (s .books) (place-of h)) c) _ _ (λ own e. own-shown z l h c s w shape asked own) λ other.
     one-of (IfGranted z l h c) (has-cycle z (read-books z (s .books) (place-of h) c) (place-of h)) _ _ (λ t e. absurd (omega arith))

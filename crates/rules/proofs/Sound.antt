@@ -2,7 +2,7 @@
 use Prim.Native.Nat.{ℕ, _≤_, _<_}
 use mathlib.Core.Path.{_≡_, sym}
 use mathlib.Core.Logic.{_↔_, _⊎_, inl, inr, ⊎-elim, Iff·rfl, Iff·trans}
-use mathlib.Core.Bool.{Bool, true, false, _&&_, false≢true}
+use mathlib.Core.Bool.{Bool, true, false, _&&_}
 use lib.Dec.{eqb}
 use borrow.Author.Tests.{eqb-true, eqb-false}
 use native.Mathlib.Decide.{decLt}
@@ -11,6 +11,7 @@ use Rattle.rules.specs.declared.Place.{Place}
 use Rattle.rules.specs.Sizes.{Size, most-records}
 use Rattle.rules.specs.Books.{Books, place-at, is-free, is-live, is-committed, is-held, wrote, first-read, last-read, room-taken}
 use Rattle.rules.specs.Sound.{cells-clear, is-clear, read-sound, reads-sound, held-sound, commit-sound, place-sound, differ, sound, SoundPlace, Sound}
+use Rattle.basics.proofs.Bools.{never}
 use Rattle.basics.proofs.Says.{eqb-says, leb-says, not-says, not-says-not, and-says, or-says, cond-says, all-says}
 
 -- ---- one place
@@ -139,7 +140,7 @@ module _ (z : Size) (records : ℕ) (p : Place) where
       cond-says (is-free p) free-says λ f.
       cond-says (is-live p) live-says λ l.
       cond-says (is-committed p) committed-says λ c.
-      (λ e. absurd (false≢true e), λ s. absurd (omega (arith, s .status-known, eqb-false (p .status) 0 f, eqb-false (p .status) 1 l, eqb-false (p .status) 2 c)))
+      (never, λ s. absurd (omega (arith, s .status-known, eqb-false (p .status) 0 f, eqb-false (p .status) 1 l, eqb-false (p .status) 2 c)))
 
 -- ---- the books
 

@@ -3,13 +3,13 @@
 use Prim.Native.Nat.{ℕ, _+_, _≤_, _<_}
 use mathlib.Core.Path.{_≡_, refl, sym, _∙_, ap, subst}
 use mathlib.Core.Logic.{_⊎_, inl, inr, ⊎-elim}
-use mathlib.Core.Bool.{Bool, true, false, cond, false≢true}
-use lib.ListN.{getD}
+use mathlib.Core.Bool.{Bool, true, cond}
+use lib.ListN.{length, getD}
 use lib.Seq.{getD-set-same, getD-set-other}
 use lib.Dec.{eqb}
 use native.Mathlib.Omega.{arith}
 use borrow.Author.Tests.{eqb-true, eqb-false}
-use Rattle.basics.proofs.Bools.{split, equal-or-not}
+use Rattle.basics.proofs.Bools.{split, equal-or-not, never}
 use Rattle.basics.proofs.Below.{count-changed}
 use Rattle.basics.proofs.Elements.{getD-replicate-same}
 use Rattle.rules.specs.declared.Place.{Place}
@@ -20,7 +20,7 @@ use Rattle.rules.specs.Handles.{place-of}
 use Rattle.rules.specs.State.{State, refused, recorded}
 use Rattle.rules.specs.Steps.{turned-back, read-books, commit-books, own-read-of, granted-read-of, granted-commit-of, open-rule, begin-of, write-of, show-of, give-up-of, post-of, order-of, close-of}
 use Rattle.rules.specs.Calls.{Call, Lending, issued}
-use Rattle.rules.specs.Kept.{LiveCaller, SoundnessKept}
+use Rattle.rules.specs.Kept.{LiveCaller, ReadAsked, CommitAsked, SoundnessKept}
 use Rattle.rules.proofs.Asked.{lowest-is-free}
 use Rattle.rules.proofs.EachCall.{EachOutcome, each-call}
 use Rattle.rules.proofs.Handles.{place-of-below}
@@ -141,7 +141,7 @@ module _ (z : Size) (b : Books) (p : Place) (free : p .status ≡ 0) where
       record {
         alone = held-place z n (begun p n) (omega arith) (omega arith) (held-unread (begun p n) refl refl refl) (omega arith) (λ l. refl) (λ e. omega arith);
         begin = λ h. inl refl;
-        commit = λ e. absurd (false≢true e);
+        commit = never;
         room = rw free (omega arith);
       }
 
@@ -183,8 +183,8 @@ module _ (z : Size) (b : Books) (p : Place) (s : SoundPlace z (b .records) p) (l
   fits-freed room =
       record {
         alone = let blank = blank-freed z p in clear-place z next (freed p) (blank .0) (blank .1);
-        begin = λ h. absurd (false≢true h);
-        commit = λ e. absurd (false≢true e);
+        begin = never;
+        commit = never;
         room = rw live (omega arith);
       }
 
@@ -280,19 +280,20 @@ module _ (z : Size) (l : Lending) (s : State) (shape : Shaped (s .books)) where
   wide h = shaped-wide (place-of h) shape (place-of-below h)
 
   -- every outcome leaves the books in shape
-  pub shape-each : EachOutcome z l s (λ o. Shaped (o .after .books))
+  pub shape-each : EachOutcome z l s (λ c o. Shaped (o .after .books))
   unfolding refused open-rule begin-of write-of own-read-of granted-read-of read-books show-of granted-commit-of commit-books turned-back give-up-of post-of order-of close-of recorded
   shape-each =
       record {
-        on-refused = λ n k. shape;
+        on-refused = λ c n k j. shape;
         on-open = shaped-opened;
         on-begin = λ asked. shaped-with-place _ (wide-begun _ _) shape;
         on-write = λ h c value asked. shaped-with-place _ (wide-marked c (wide h)) shape;
         on-own-read = λ h c asked own. shaped-with-record shape;
-        on-read = λ h c asked own. shaped-with-place _ (wide-read-marked c _ (wide h)) shape;
+        on-read = λ h c asked own free. shaped-with-place _ (wide-read-marked c _ (wide h)) shape;
         on-show = λ given h c asked. shape;
-        on-commit = λ h asked. shaped-with-place _ (wide-sealed _ (wide h)) shape;
-        on-back = λ kind h c log caller. shaped-with-place _ (wide-freed _) shape;
+        on-commit = λ h asked free. shaped-with-place _ (wide-sealed _ (wide h)) shape;
+        on-read-back = λ h c asked own cycle. shaped-with-place _ (wide-freed _) shape;
+        on-commit-back = λ h asked cycle. shaped-with-place _ (wide-freed _) shape;
         on-give-up = λ h asked. shaped-with-place _ (wide-freed _) shape;
         on-post = λ c value asked. shaped-with-place _ (wide-posted _ c _) shape;
         on-order = λ h asked. shape;
@@ -310,23 +311,33 @@ module _ (z : Size) (l : Lending) (s : State) (shape : Shaped (s .books)) where
         → (place-at b (lowest-free z b) .status ≡ 0 → Fits z b (place-at b (lowest-free z b)) p) → Sound z (with-place b (lowest-free z b) p)
     lowest-changed p there f = sound-with-place z b (lowest-free z b) good there p w shape (f (lowest-is-free z b there))
 
-    pub sound-each : EachOutcome z l s (λ o. Sound z (o .after .books))
+    -- so are the books as they would be if a read, or a commit, were granted
+    pub sound-read : (h c : ℕ) → ReadAsked z (length (s .table)) (length (s .drafts)) (l .log) b h c → Sound z (read-books z b (place-of h) c)
+    unfolding read-books
+    sound-read h c asked =
+        let inside : c < width = omega (arith, w .cells, asked .cell) in
+        caller-changed h _ (asked .caller) (λ p. fits-read-marked z b _ p (asked .caller .live) c (wide h) inside (asked .room))
+
+    pub sound-commit : (h : ℕ) → CommitAsked z (length (s .table)) (length (s .drafts)) (l .log) b h → Sound z (commit-books z b (place-of h))
+    unfolding commit-books
+    sound-commit h asked = caller-changed h _ (asked .caller) (λ p. fits-sealed z b _ p (asked .caller .live) (good .room))
+
+    pub sound-each : EachOutcome z l s (λ c o. Sound z (o .after .books))
     unfolding refused open-rule begin-of write-of own-read-of granted-read-of read-books show-of granted-commit-of commit-books turned-back give-up-of post-of order-of close-of recorded
     sound-each =
         record {
-          on-refused = λ n k. good;
+          on-refused = λ c n k j. good;
           on-open = sound-says z _ .0 (sound-opened z);
           on-begin = λ asked. lowest-changed _ (asked .free) (λ free. fits-begun z b _ free (asked .room));
           on-write = λ h c value asked. caller-changed h _ (asked .caller) (λ p. fits-marked z b _ p (asked .caller .live) c (asked .room));
           on-own-read = λ h c asked own.
               let there = asked .caller .place in
               sound-with-record z b (place-of h) good there (fits-same z b _ (good .each (place-of h) there) (asked .caller .live) (asked .room));
-          on-read = λ h c asked own.
-              let inside : c < width = omega (arith, w .cells, asked .cell) in
-              caller-changed h _ (asked .caller) (λ p. fits-read-marked z b _ p (asked .caller .live) c (wide h) inside (asked .room));
+          on-read = λ h c asked own free. sound-read h c asked;
           on-show = λ given h c asked. good;
-          on-commit = λ h asked. caller-changed h _ (asked .caller) (λ p. fits-sealed z b _ p (asked .caller .live) (good .room));
-          on-back = λ kind h c log caller. caller-changed h _ caller (λ p. fits-freed z b _ p (caller .live) (good .room));
+          on-commit = λ h asked free. sound-commit h asked;
+          on-read-back = λ h c asked own cycle. caller-changed h _ (asked .caller) (λ p. fits-freed z b _ p (asked .caller .live) (good .room));
+          on-commit-back = λ h asked cycle. caller-changed h _ (asked .caller) (λ p. fits-freed z b _ p (asked .caller .live) (good .room));
           on-give-up = λ h asked. caller-changed h _ (asked .caller) (λ p. fits-freed z b _ p (asked .caller .live) (good .room));
           on-post = λ c value asked. lowest-changed _ (asked .free) (λ free. fits-posted z b _ free c (asked .room));
           on-order = λ h asked. good;

@@ -4,16 +4,22 @@ use Rattle.rules.specs.Daylog.{standing, day-of}
 use Rattle.rules.specs.Trials.{Trials}
 use Rattle.rules.specs.CaseA.{CaseALog}
 use Rattle.rules.specs.Statements.{SoundnessSays, LayoutSays, LogReadsBack, ResultsUnique, RefusalsChangeNothing, Conflicts, GivenOrders}
+use Rattle.rules.specs.Runs.{RunsReadBack, HandlesName, OrdersAccepted, ConflictsMet}
+use Rattle.rules.specs.History.{AcceptedSays, DaysPermissive}
 use Rattle.rules.specs.Kept.{ReasonsAsked, SoundnessKept, ShownIsRecorded, LogJoinsDay, Unlent}
+use Rattle.rules.proofs.AcceptedSays
 use Rattle.rules.proofs.Asked
 use Rattle.rules.proofs.CaseA
 use Rattle.rules.proofs.Conflict
 use Rattle.rules.proofs.Daylog
 use Rattle.rules.proofs.Encoding
+use Rattle.rules.proofs.Holders
 use Rattle.rules.proofs.Joined
 use Rattle.rules.proofs.Judging
 use Rattle.rules.proofs.LaidOut
+use Rattle.rules.proofs.LocalOpacity
 use Rattle.rules.proofs.Reasons
+use Rattle.rules.proofs.Runs
 use Rattle.rules.proofs.Shown
 use Rattle.rules.proofs.Sound
 use Rattle.rules.proofs.SoundAfter
@@ -75,3 +81,23 @@ log-joins-day = Joined.log-joins-day
 -- what a call is not lent stays, and is of no concern to its rule
 pub unlent : Unlent
 unlent = Unlent.unlent
+
+-- of every run: the log reads back, a handle names its transaction, given orders are accepted, and Conflict comes exactly when no list would be
+pub runs-read-back : RunsReadBack
+runs-read-back = Runs.runs-read-back
+
+pub handles-name : HandlesName
+handles-name = Holders.handles-name
+
+pub orders-accepted : OrdersAccepted
+orders-accepted = Runs.orders-accepted
+
+pub conflicts-met : ConflictsMet
+conflicts-met = Runs.conflicts-met
+
+-- in the words of source document 000: what `accepted` says, and that every day of a run is conflict locally opaque and permissive
+pub accepted-says : AcceptedSays
+accepted-says = AcceptedSays.accepted-says
+
+pub days-permissive : DaysPermissive
+days-permissive = LocalOpacity.days-permissive

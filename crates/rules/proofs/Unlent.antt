@@ -8,14 +8,14 @@ use Rattle.basics.proofs.Bools.{split}
 use Rattle.rules.specs.Sizes.{Size}
 use Rattle.rules.specs.Books.{place-at, wrote}
 use Rattle.rules.specs.Handles.{place-of}
-use Rattle.rules.specs.Judging.{has-cycle}
 use Rattle.rules.specs.Numbers.{Reason, first-reason}
 use Rattle.rules.specs.Daylog.{read-conflict-kind, commit-conflict-kind}
 use Rattle.rules.specs.State.{State, Outcome, state-of, refused, unless-refused, recorded}
-use Rattle.rules.specs.Steps.{turned-back, weighed, read-books, commit-books, own-read-of, granted-read-of, judged-read-of, granted-commit-of, judged-commit-of, open-rule, begin-rule, write-rule, read-rule, show-rule, commit-rule, give-up-rule, post-rule, order-rule, close-rule, begin-of, write-of, read-of, show-of, give-up-of, post-of, order-of, close-of}
+use Rattle.rules.specs.Steps.{turned-back, own-read-of, granted-read-of, judged-read-of, granted-commit-of, judged-commit-of, open-rule, begin-rule, write-rule, read-rule, show-rule, commit-rule, give-up-rule, post-rule, order-rule, close-rule, begin-of, write-of, read-of, show-of, give-up-of, post-of, order-of, close-of}
 use Rattle.rules.specs.Calls.{Call, Open, Begin, Write, Read, Show, Commit, GiveUp, Post, Order, Close, Lending, issued}
 use Rattle.rules.specs.Kept.{gives-order, AsLent, NeitherLent, Unlent}
 use Rattle.rules.proofs.EachCall.{refused-or, one-of}
+use Rattle.rules.proofs.Reasons.{either-weighed}
 
 -- two outcomes whose parts are the same one by one
 alike : {o narrow : Outcome} → o .number ≡ narrow .number → o .answer ≡ narrow .answer → o .order ≡ narrow .order
@@ -54,10 +54,10 @@ module _ (z : Size) (s : State) where
   -- a read leaves both buffers
   read-leaves : (f : State → List ℕ) (i c : ℕ) → f (own-read-of z s i c .after) ≡ f s
       → f (turned-back s read-conflict-kind i c .after) ≡ f s → f (granted-read-of z s i c .after) ≡ f s → f (read-of z s i c .after) ≡ f s
-  unfolding read-of judged-read-of weighed
+  unfolding read-of judged-read-of
   read-leaves f i c own back on =
       one-of (λ o. f (o .after) ≡ f s) (wrote (place-at (s .books) i) c) _ _ (λ e. own)
-      (λ e. one-of (λ o. f (o .after) ≡ f s) (has-cycle z (read-books z (s .books) i c) i) _ _ (λ t. back) (λ t. on))
+      (λ e. either-weighed (λ o. f (o .after) ≡ f s) z _ i _ _ back on)
 
   table-after-read : (i c : ℕ) → read-of z s i c .after .table ≡ s .table
   unfolding own-read-of turned-back granted-read-of recorded
@@ -69,10 +69,9 @@ module _ (z : Size) (s : State) where
 
   -- a commit leaves the drafts
   drafts-after-commit : (i : ℕ) → judged-commit-of z s i .after .drafts ≡ s .drafts
-  unfolding judged-commit-of weighed turned-back granted-commit-of recorded
+  unfolding judged-commit-of turned-back granted-commit-of recorded
   drafts-after-commit i =
-      one-of (λ o. o .after .drafts ≡ s .drafts) (has-cycle z (commit-books z (s .books) i) i)
-      (turned-back s commit-conflict-kind i 0) (granted-commit-of z s i) (λ t. refl) (λ t. refl)
+      either-weighed (λ o. o .after .drafts ≡ s .drafts) z _ i (turned-back s commit-conflict-kind i 0) (granted-commit-of z s i) refl refl
 
 pub unlent : Unlent
 unfolding refused open-rule begin-rule begin-of write-rule write-of read-rule show-rule show-of commit-rule give-up-rule give-up-of post-rule post-of order-rule order-of close-rule close-of recorded
@@ -103,18 +102,18 @@ Orderless o = o .order ≡ []
 
 -- only order gives an order
 pub orderless : (z : Size) (l : Lending) (c : Call) (s : State) → gives-order c ≡ false → issued z l c s .order ≡ []
-unfolding issued open-rule begin-rule begin-of write-rule write-of read-rule read-of own-read-of judged-read-of granted-read-of show-rule show-of commit-rule judged-commit-of granted-commit-of weighed turned-back give-up-rule give-up-of post-rule post-of close-rule close-of recorded refused
+unfolding issued open-rule begin-rule begin-of write-rule write-of read-rule read-of own-read-of judged-read-of granted-read-of show-rule show-of commit-rule judged-commit-of granted-commit-of turned-back give-up-rule give-up-of post-rule post-of close-rule close-of recorded refused
 orderless z l Open s e = refl
 orderless z l Begin s e = refused-or Orderless _ s _ (λ n k. refl) (λ g. refl)
 orderless z l (Write h c value) s e = refused-or Orderless _ s _ (λ n k. refl) (λ g. refl)
 orderless z l (Read h c) s e =
     refused-or Orderless _ s _ (λ n k. refl) λ g.
     one-of Orderless (wrote (place-at (s .books) (place-of h)) c) _ _ (λ own. refl)
-    (λ other. one-of Orderless (has-cycle z (read-books z (s .books) (place-of h) c) (place-of h)) _ _ (λ t. refl) (λ f. refl))
+    (λ other. either-weighed Orderless z _ (place-of h) _ _ refl refl)
 orderless z l (Show given h c) s e = refused-or Orderless _ s _ (λ n k. refl) (λ g. refl)
 orderless z l (Commit h) s e =
     refused-or Orderless _ s _ (λ n k. refl) λ g.
-    one-of Orderless (has-cycle z (commit-books z (s .books) (place-of h)) (place-of h)) _ _ (λ t. refl) (λ f. refl)
+    either-weighed Orderless z _ (place-of h) _ _ refl refl
 orderless z l (GiveUp h) s e = refused-or Orderless _ s _ (λ n k. refl) (λ g. refl)
 orderless z l (Post c value) s e = refused-or Orderless _ s _ (λ n k. refl) (λ g. refl)
 orderless z l (Order h) s e = absurd (false≢true (sym e))

@@ -6,12 +6,14 @@ pub mod Checker
 pub mod Day
 pub mod Daylog
 pub mod Handles
+pub mod History
 pub mod Judging
 pub mod Kept
 pub mod Layout
 pub mod Numbers
 pub mod Report
 pub mod Run
+pub mod Runs
 pub mod Sizes
 pub mod Sound
 pub mod State

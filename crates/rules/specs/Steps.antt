@@ -1,7 +1,7 @@
 -- Document 01, "Step rules" and "Numbers given back": each call's reasons in the order of their numbers, and what it does if none applies.
 -- Reasons look at the books and at lengths alone: `value`, `table`, `drafts`, `log` and `buffer` among their arguments are lengths of what is lent.
 use Prim.Native.Nat.{ℕ, _+_}
-use mathlib.Core.Bool.{not, cond, _||_}
+use mathlib.Core.Bool.{Bool, not, cond, _||_}
 use mathlib.Core.List.{List, [], _∷_, _++_}
 use lib.ListN.{length}
 use lib.Dec.{ltb, leb, eqb}
@@ -60,9 +60,13 @@ turned-back s kind i c =
     let p = place-at (s .books) i in
     recorded conflict 0 (with-books s (with-place (s .books) i (freed p))) (record-at kind i p c no-value)
 
--- a judged call is weighed with itself counted as granted: Conflict exactly if the pairs contain a cycle in the books as they would then be
+-- Conflict exactly if the pairs contain a cycle
+unfoldable pub meets-conflict : Size → Books → ℕ → Bool
+meets-conflict z b i = has-cycle z b i
+
+-- a judged call is weighed with itself counted as granted, in the books as they would then be
 unfoldable pub weighed : Size → Books → ℕ → Outcome → Outcome → Outcome
-weighed z b i back on = cond (has-cycle z b i) back on
+weighed z b i back on = cond (meets-conflict z b i) back on
 
 -- ---- Open gives books with every place free, turns 0, no records. It never refuses.
 

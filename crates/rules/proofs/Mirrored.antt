@@ -1,0 +1,300 @@
+-- Every call keeps the books and the day's records mirroring each other. Rests on soundness and shape being kept, on what is asked of each call and on
+-- the step of one record. Assumes nothing.
+use Prim.Native.Nat.{ℕ, suc, _<_}
+use mathlib.Core.Path.{_≡_, refl, sym, _∙_, ap, subst}
+use mathlib.Core.Logic.{⊎-elim, Iff·rfl}
+use mathlib.Core.Bool.{true, false, cond, _&&_, _||_, false≢true}
+use mathlib.Core.List.{List, [], _∷_}
+use lib.ListN.{length}
+use lib.Dec.{ltb, leb, eqb}
+use native.Mathlib.Omega.{arith}
+use borrow.Author.Tests.{eq-eqb, lt-ltb}
+use Rattle.basics.specs.Lists.{anyIn, member}
+use Rattle.basics.specs.Bytes.{same}
+use Rattle.basics.proofs.Bools.{and-both, never}
+use Rattle.basics.proofs.Says.{not-says, if-says}
+use Rattle.rules.specs.declared.Place.{Place}
+use Rattle.rules.specs.declared.Record.{Record}
+use Rattle.rules.specs.Sizes.{Size, Within, width}
+use Rattle.rules.specs.Books.{Books, Shaped, place-at, wrote, freed, begun, posted, marked, read-marked, sealed, with-place, with-record, no-place, opened, closed, lowest-free}
+use Rattle.rules.specs.Handles.{place-of}
+use Rattle.rules.specs.Sound.{Sound}
+use Rattle.rules.specs.Cells.{draft-of}
+use Rattle.rules.specs.Daylog.{lowest-kind, highest-kind, begin-kind, judged-read-kind, own-read-kind, write-kind, commit-kind, give-up-kind, read-conflict-kind, commit-conflict-kind, post-kind, kind-starts, kind-frees, kind-has-cell, kind-has-value, no-value}
+use Rattle.rules.specs.Layout.{seat, fits, fields-right, walks}
+use Rattle.rules.specs.Day.{events, committed}
+use Rattle.rules.specs.State.{Outcome, refused, recorded}
+use Rattle.rules.specs.Steps.{number-of, record-at, turned-back, read-books, commit-books, own-read-of, granted-read-of, granted-commit-of, open-rule, begin-of, write-of, show-of, give-up-of, post-of, order-of, close-of}
+use Rattle.rules.specs.Calls.{Call, Lending}
+use Rattle.rules.specs.Kept.{LiveCaller, BeginAsked, WriteAsked, ReadAsked, CommitAsked, PostAsked}
+use Rattle.rules.specs.Run.{Machine, lends, outcome, new-day, moved-on, after-call}
+use Rattle.rules.specs.Runs.{DayStarts}
+use Rattle.rules.proofs.Mirror.{Holds, Mirrors, Mirrored}
+use Rattle.rules.proofs.Asked.{lowest-is-free}
+use Rattle.rules.proofs.EachCall.{EachOutcome, each-call}
+use Rattle.rules.proofs.Handles.{place-of-below}
+use Rattle.rules.proofs.Shape.{Wide, wide-freed, wide-read-marked, wide-sealed, place-at-same, place-at-other, place-at-opened, place-at-closed, shaped-wide, shaped-opened, shaped-closed, shaped-with-place}
+use Rattle.rules.proofs.Sound.{sound-says}
+use Rattle.rules.proofs.SoundKept.{sound-opened, sound-closed}
+use Rattle.rules.proofs.SoundAfter.{shape-each, sound-each, sound-read, sound-commit}
+use Rattle.rules.proofs.Seats.{LiveSeat}
+use Rattle.rules.proofs.MirrorStep.{mirrored-more}
+use Rattle.rules.proofs.MirrorKinds.{mirrors-freed, mirrors-begun, mirrors-posted, mirrors-marked, mirrors-own-read, mirrors-read, mirrors-sealed}
+
+-- ---- a new day
+
+-- a place that was freed stands as a seat of no records
+mirrors-blank : (z : Size) (i : ℕ) (p : Place) → Mirrors z [] i (freed p)
+unfolding freed seat
+mirrors-blank z i p = record { status = refl; holds = never }
+
+-- books whose places were all freed, before the first record
+module _ (z : Size) where
+  blank-day : (b : Books) → Shaped b → Sound z b → b .records ≡ 0 → (freed-of : ℕ → Place)
+      → ((i : ℕ) → i < z .places → place-at b i ≡ freed (freed-of i)) → Mirrored z b []
+  unfolding walks events committed anyIn
+  blank-day b shape sound none freed-of blank =
+      record {
+        shape = shape;
+        sound = sound;
+        counted = none;
+        walking = refl;
+        places = λ i h. rw (blank i h) (mirrors-blank z i (freed-of i));
+        kept = λ t done. absurd (false≢true done);
+      }
+
+  module _ (w : Within z) where
+    -- an opening and a close leave such books
+    mirrored-opened : Mirrored z opened []
+    unfolding opened
+    mirrored-opened =
+        blank-day opened shaped-opened (sound-says z _ .0 (sound-opened z)) refl (λ i. no-place) (λ i h. place-at-opened i (omega (arith, w .places)))
+
+    mirrored-closed : (before : Books) → Shaped before → Mirrored z (closed before) []
+    unfolding closed
+    mirrored-closed before s =
+        blank-day (closed before) (shaped-closed s) (sound-says z _ .0 (sound-closed z before)) refl (place-at before)
+        (λ i h. place-at-closed i s (omega (arith, w .places)))
+
+-- the books of an opening, and those that a close leaves
+pub mirrored-new : (z : Size) (b : Books) → Within z → DayStarts b → Mirrored z b []
+mirrored-new z b w =
+    ⊎-elim (λ e. subst (λ (x : Books). Mirrored z x []) (sym e) (mirrored-opened z w))
+    (λ x. subst (λ (y : Books). Mirrored z y []) (sym (x .2)) (mirrored-closed z w (x .0) (x .1)))
+
+-- ---- the record of a call
+
+-- it is right by itself
+right : (z : Size) (r : Record) → leb lowest-kind (r .kind) && leb (r .kind) highest-kind ≡ true → r .place < z .places
+    → cond (kind-has-cell (r .kind)) (ltb (r .cell) (z .cells)) (eqb (r .cell) 0) ≡ true
+    → cond (kind-has-value (r .kind)) true (same (r .value) no-value) ≡ true → fields-right z r ≡ true
+unfolding fields-right
+right z r kind place cell value = and-both _ _ kind (and-both _ _ (lt-ltb (r .place) (z .places) place) (and-both _ _ cell value))
+
+module _ (day : List Record) (r : Record) where
+  -- begin and post fit at a free place
+  fits-free : kind-starts (r .kind) ≡ true → seat day (r .place) .status ≡ 0 → fits day r ≡ true
+  unfolding fits
+  fits-free k free = rw (k, free)
+
+  -- the other kinds fit at a live one with its turn, if the cell is written or unwritten as they ask
+  fits-caller : kind-starts (r .kind) ≡ false → LiveSeat (r .turn) (seat day (r .place))
+      → (eqb (r .kind) own-read-kind ≡ true → member (r .cell) (seat day (r .place) .written) ≡ true)
+      → (eqb (r .kind) judged-read-kind || eqb (r .kind) read-conflict-kind ≡ true → member (r .cell) (seat day (r .place) .written) ≡ false)
+      → fits day r ≡ true
+  unfolding fits
+  fits-caller k live own unwritten =
+      rw (k, live .0, eq-eqb _ _ (live .1))
+      (and-both _ _ (if-says (eqb (r .kind) own-read-kind) Iff·rfl .1 own)
+      (if-says (eqb (r .kind) judged-read-kind || eqb (r .kind) read-conflict-kind) (not-says _) .1 unwritten))
+
+-- ---- every call
+
+module _ (z : Size) (l : Lending) (m : Machine) (w : Within z) (mirror : Mirrored z (m .state .books) (m .day)) where
+  abbrev b : Books
+  b = m .state .books
+
+  abbrev day : List Record
+  day = m .day
+
+  -- a record's number
+  number : number-of b ≡ suc (length day)
+  number = omega (arith, mirror .counted)
+
+  -- one record, and its place changed
+  changed : (r : Record) (q : Place) → r .place < z .places → fields-right z r ≡ true → fits day r ≡ true → Mirrors z (r ∷ day) (r .place) q
+      → Shaped (with-place b (r .place) q) → Sound z (with-place b (r .place) q) → Mirrored z (with-place b (r .place) q) (r ∷ day)
+  unfolding with-place
+  changed r q there right fit here shape sound =
+      let same = place-at-same (r .place) q (mirror .shape) (omega (arith, w .places)) in
+      mirrored-more z b (with-place b (r .place) q) r day mirror there (λ j h other. place-at-other b (r .place) j q other) right fit
+      (subst (Mirrors z (r ∷ day) (r .place)) (sym same) here) shape sound refl
+
+  -- the place of a live caller
+  module _ (h : ℕ) (caller : LiveCaller z b h) where
+    abbrev i : ℕ
+    i = place-of h
+
+    abbrev p : Place
+    p = place-at b i
+
+    -- it mirrors its seat, is held and wide
+    here : Mirrors z day i p
+    here = mirror .places i (caller .place)
+
+    held : Holds z day i p
+    held = here .holds (rw (caller .live))
+
+    wide : Wide p
+    wide = shaped-wide i (mirror .shape) (place-of-below h)
+
+    -- a record that starts nothing, and what it asks of its cell
+    caller-fits : (kind c : ℕ) (value : List ℕ) → kind-starts kind ≡ false → (eqb kind own-read-kind ≡ true → (c < z .cells) × (wrote p c ≡ true))
+        → (eqb kind judged-read-kind || eqb kind read-conflict-kind ≡ true → (c < z .cells) × (wrote p c ≡ false))
+        → fits day (record-at kind i p c value) ≡ true
+    caller-fits kind c value k own unwritten =
+        fits-caller day (record-at kind i p c value) k (here .status ∙ caller .live, held .turn)
+        (λ e. let o = own e in held .cells c (o .0) ∙ o .1) (λ e. let o = unwritten e in held .cells c (o .0) ∙ o .1)
+
+    -- a record that frees the place
+    caller-freed : (kind c : ℕ) → let r = record-at kind i p c no-value in
+        kind-frees kind ≡ true → fields-right z r ≡ true → fits day r ≡ true → Sound z (with-place b i (freed p)) → Mirrored z (with-place b i (freed p)) (r ∷ day)
+    caller-freed kind c k right fit sound =
+        let r = record-at kind i p c no-value in
+        changed r (freed p) (caller .place) right fit (mirrors-freed z day i p r refl k) (shaped-with-place i (wide-freed p) (mirror .shape)) sound
+
+  -- a read, were it granted, with whatever value, and a commit, were it granted
+  pub mirrored-read : (h c : ℕ) (value : List ℕ) → ReadAsked z (length (m .state .table)) (length (m .state .drafts)) (l .log) (m .state .books) h c
+      → wrote (place-at (m .state .books) (place-of h)) c ≡ false
+      → Mirrored z (read-books z (m .state .books) (place-of h) c) (record-at judged-read-kind (place-of h) (place-at (m .state .books) (place-of h)) c value ∷ m .day)
+  unfolding read-books kind-starts kind-has-cell kind-has-value
+  mirrored-read h c value asked unwritten =
+      let caller = asked .caller in
+      let i = place-of h in
+      let p = place-at b i in
+      let inside : c < width = omega (arith, w .cells, asked .cell) in
+      changed (record-at judged-read-kind i p c value) (read-marked p c (number-of b)) (caller .place)
+      (right z _ refl (caller .place) (lt-ltb c (z .cells) (asked .cell)) refl)
+      (caller-fits h caller judged-read-kind c value refl never (λ e. (asked .cell, unwritten)))
+      (mirrors-read z day i p (number-of b) number (here h caller) (caller .live) c value inside (wide h caller))
+      (shaped-with-place i (wide-read-marked c _ (wide h caller)) (mirror .shape))
+      (sound-read z l (m .state) (mirror .shape) w (mirror .sound) h c asked)
+
+  pub mirrored-commit : (h : ℕ) → CommitAsked z (length (m .state .table)) (length (m .state .drafts)) (l .log) (m .state .books) h
+      → Mirrored z (commit-books z (m .state .books) (place-of h)) (record-at commit-kind (place-of h) (place-at (m .state .books) (place-of h)) 0 no-value ∷ m .day)
+  unfolding commit-books kind-starts kind-has-cell kind-has-value same
+  mirrored-commit h asked =
+      let caller = asked .caller in
+      let i = place-of h in
+      let p = place-at b i in
+      changed (record-at commit-kind i p 0 no-value) (sealed p (number-of b)) (caller .place)
+      (right z _ refl (caller .place) refl refl)
+      (caller-fits h caller commit-kind 0 no-value refl never never)
+      (mirrors-sealed z day i p (number-of b) number (here h caller) (caller .live))
+      (shaped-with-place i (wide-sealed _ (wide h caller)) (mirror .shape))
+      (sound-commit z l (m .state) (mirror .shape) w (mirror .sound) h asked)
+
+  -- the books and the day after an outcome mirror each other
+  abbrev Keeps : Outcome → Type 0
+  Keeps o = Mirrored z (after-call m o .state .books) (after-call m o .day)
+
+  -- they stay in shape and sound
+  shapes : EachOutcome z l (m .state) (λ c o. Shaped (o .after .books))
+  shapes = shape-each z l (m .state) (mirror .shape)
+
+  sounds : EachOutcome z l (m .state) (λ c o. Sound z (o .after .books))
+  sounds = sound-each z l (m .state) (mirror .shape) w (mirror .sound)
+
+  -- begin and post take the lowest free place
+  lowest-fits : (r : Record) → r .place ≡ lowest-free z b → r .place < z .places → kind-starts (r .kind) ≡ true → fits day r ≡ true
+  lowest-fits r lowest there k =
+      fits-free day r k (mirror .places (r .place) there .status ∙ ap (λ j. place-at b j .status) lowest ∙ lowest-is-free z b (omega arith))
+
+  keeps-begin : BeginAsked z (l .log) b → Keeps (begin-of z (m .state))
+  unfolding after-call moved-on begin-of recorded kind-starts kind-has-cell kind-has-value same
+  keeps-begin asked =
+      let i = lowest-free z b in
+      let q = begun (place-at b i) (number-of b) in
+      let r = record-at begin-kind i q 0 no-value in
+      changed r q (asked .free) (right z r refl (asked .free) refl refl) (lowest-fits r refl (asked .free) refl)
+      (mirrors-begun z day i (place-at b i) (number-of b) number) (shapes .on-begin asked) (sounds .on-begin asked)
+
+  keeps-post : (c : ℕ) (value : List ℕ) → PostAsked z (length value) (length (m .state .table)) (l .log) b c → Keeps (post-of z (m .state) c value)
+  unfolding after-call moved-on post-of recorded kind-starts kind-has-cell kind-has-value
+  keeps-post c value asked =
+      let i = lowest-free z b in
+      let q = posted (place-at b i) c (number-of b) in
+      let r = record-at post-kind i q c value in
+      let inside : c < width = omega (arith, w .cells, asked .cell) in
+      changed r q (asked .free) (right z r refl (asked .free) (lt-ltb c (z .cells) (asked .cell)) refl) (lowest-fits r refl (asked .free) refl)
+      (mirrors-posted z day i (place-at b i) (number-of b) number c value inside) (shapes .on-post c value asked) (sounds .on-post c value asked)
+
+  -- a write marks the cell at its caller's place
+  keeps-write : (h c : ℕ) (value : List ℕ) → WriteAsked z (length value) (length (m .state .drafts)) (l .log) b h c
+      → Keeps (write-of z (m .state) (place-of h) c value)
+  unfolding after-call moved-on write-of recorded kind-starts kind-has-cell kind-has-value
+  keeps-write h c value asked =
+      let caller = asked .caller in
+      let i = place-of h in
+      let p = place-at b i in
+      let r = record-at write-kind i p c value in
+      let inside : c < length (p .written) = omega (arith, w .cells, asked .cell, wide h caller .written) in
+      changed r (marked p c) (caller .place) (right z r refl (caller .place) (lt-ltb c (z .cells) (asked .cell)) refl)
+      (caller-fits h caller write-kind c value refl never never)
+      (mirrors-marked z day i p (number-of b) number (here h caller) (caller .live) c value inside) (shapes .on-write h c value asked)
+      (sounds .on-write h c value asked)
+
+  -- an own read changes no place
+  keeps-own-read : (h c : ℕ) → ReadAsked z (length (m .state .table)) (length (m .state .drafts)) (l .log) b h c
+      → wrote (place-at b (place-of h)) c ≡ true → Keeps (own-read-of z (m .state) (place-of h) c)
+  unfolding after-call moved-on own-read-of recorded with-record kind-starts kind-has-cell kind-has-value
+  keeps-own-read h c asked own =
+      let caller = asked .caller in
+      let i = place-of h in
+      let p = place-at b i in
+      let value = draft-of z (m .state .drafts) i c in
+      let r = record-at own-read-kind i p c value in
+      mirrored-more z b (with-record b) r day mirror (caller .place) (λ j k other. refl)
+      (right z r refl (caller .place) (lt-ltb c (z .cells) (asked .cell)) refl)
+      (caller-fits h caller own-read-kind c value refl (λ e. (asked .cell, own)) never)
+      (mirrors-own-read z day i p (number-of b) number (here h caller) (caller .live) c value) (shapes .on-own-read h c asked own)
+      (sounds .on-own-read h c asked own) refl
+
+  -- so does every outcome
+  pub mirrored-each : EachOutcome z l (m .state) (λ c o. Mirrored z (after-call m o .state .books) (after-call m o .day))
+  unfolding after-call moved-on new-day refused open-rule granted-read-of show-of granted-commit-of turned-back give-up-of order-of close-of recorded kind-starts kind-frees kind-has-cell kind-has-value same
+  mirrored-each =
+      record {
+        on-refused = λ c n k j. mirror;
+        on-open = mirrored-opened z w;
+        on-begin = keeps-begin;
+        on-write = keeps-write;
+        on-own-read = keeps-own-read;
+        on-read = λ h c asked unwritten free. mirrored-read h c _ asked unwritten;
+        on-read-back = λ h c asked unwritten cycle.
+            let caller = asked .caller in
+            caller-freed h caller read-conflict-kind c refl (right z _ refl (caller .place) (lt-ltb c (z .cells) (asked .cell)) refl)
+            (caller-fits h caller read-conflict-kind c no-value refl never (λ e. (asked .cell, unwritten)))
+            (sounds .on-read-back h c asked unwritten cycle);
+        on-show = λ given h c asked. mirror;
+        on-commit = λ h asked free. mirrored-commit h asked;
+        on-commit-back = λ h asked cycle.
+            let caller = asked .caller in
+            caller-freed h caller commit-conflict-kind 0 refl (right z _ refl (caller .place) refl refl)
+            (caller-fits h caller commit-conflict-kind 0 no-value refl never never)
+            (sounds .on-commit-back h asked cycle);
+        on-give-up = λ h asked.
+            let caller = asked .caller in
+            caller-freed h caller give-up-kind 0 refl (right z _ refl (caller .place) refl refl)
+            (caller-fits h caller give-up-kind 0 no-value refl never never)
+            (sounds .on-give-up h asked);
+        on-post = keeps-post;
+        on-order = λ h asked. mirror;
+        on-close = λ asked. mirrored-closed z w b (mirror .shape);
+      }
+
+-- so does every call on a machine
+pub mirrored-after : (z : Size) (m : Machine) → Within z → Mirrored z (m .state .books) (m .day) → (c : Call)
+    → Mirrored z (after-call m (outcome z c m) .state .books) (after-call m (outcome z c m) .day)
+unfolding outcome
+mirrored-after z m w mirror c = each-call z (lends z m) (m .state) _ (mirrored-each z (lends z m) m w mirror) c

@@ -1,0 +1,238 @@
+-- What every call of a run keeps: books and day mirror each other, the bytes are those of the day, every transaction stays explained, and whoever was
+-- turned back had to be. Rests on Mirrored, Valued, Verdicts and Explained, one for each. Assumes nothing.
+use Prim.Native.Nat.{ℕ, _<_}
+use mathlib.Core.Path.{_≡_, refl, sym, _∙_, ap, subst}
+use mathlib.Core.Logic.{_↔_, Iff·trans}
+use mathlib.Core.Bool.{true, false, _||_}
+use mathlib.Core.List.{List, [], _∷_, List·Memᴰ·head, List·Memᴰ·tail}
+use lib.Dec.{eqb}
+use native.Mathlib.Omega.{arith}
+use borrow.Author.Tests.{eqb-false}
+use Rattle.basics.specs.Bytes.{AreBytes}
+use Rattle.basics.specs.Walk.{Cycle}
+use Rattle.basics.proofs.Bools.{clash, never}
+use Rattle.basics.proofs.Each.{each-none, each-cons}
+use Rattle.rules.specs.declared.Record.{Record}
+use Rattle.rules.specs.Sizes.{Size, Within}
+use Rattle.rules.specs.Books.{Books, place-at, held-status, is-held, read-marked, sealed}
+use Rattle.rules.specs.Handles.{place-of}
+use Rattle.rules.specs.Judging.{has-cycle}
+use Rattle.rules.specs.Daylog.{judged-read-kind, commit-kind, read-conflict-kind, commit-conflict-kind, kind-starts, kind-judged-read, no-value}
+use Rattle.rules.specs.State.{State, refused, recorded}
+use Rattle.rules.specs.Steps.{record-at, number-of, read-books, commit-books, turned-back, open-rule, begin-of, write-of, own-read-of, granted-read-of, show-of, granted-commit-of, give-up-of, post-of, order-of, close-of}
+use Rattle.rules.specs.Calls.{Call, Lending}
+use Rattle.rules.specs.Kept.{LiveCaller}
+use Rattle.rules.specs.Run.{Machine, lends, outcome, new-day, moved-on, after-call, played}
+use Rattle.rules.specs.Layout.{walks, EachRecord}
+use Rattle.rules.specs.Day.{events, event, is-transaction, whose}
+use Rattle.rules.specs.Runs.{Starts, value-taken, InBytes, ran, Reached, DayPair}
+use Rattle.rules.specs.History.{as-granted-read, as-granted-commit}
+use Rattle.rules.proofs.CellsWritten.{caller-whose}
+use Rattle.rules.proofs.Day.{who-transaction}
+use Rattle.rules.proofs.EachCall.{EachOutcome, each-call}
+use Rattle.rules.proofs.Explained.{Explained, explained-new, explained-more}
+use Rattle.rules.proofs.Handles.{place-of-below}
+use Rattle.rules.proofs.Judging.{given-orders}
+use Rattle.rules.proofs.Mirror.{Mirrored, Valued}
+use Rattle.rules.proofs.Mirrored.{mirrored-new, mirrored-read, mirrored-commit, mirrored-each}
+use Rattle.rules.proofs.Shape.{place-at-same}
+use Rattle.rules.proofs.Valued.{valued-new, valued-each}
+use Rattle.rules.proofs.Verdicts.{cycle-mirrored}
+
+-- ---- who was turned back
+
+-- with the record the pairs of its transaction's company contain a cycle
+abbrev CycleWith : Size → List Record → Record → Type 0
+CycleWith z earlier r = Cycle (DayPair z (events (r ∷ earlier)) (whose earlier r))
+
+-- the record walks behind the earlier ones, its transaction has begun, and there is such a cycle
+pub record Cyclic (z : Size) (earlier : List Record) (r : Record) : Type 0 where
+  pub walking : walks z (r ∷ earlier) ≡ true
+  pub known : is-transaction (events (r ∷ earlier)) (whose earlier r) ≡ true
+  pub cycle : CycleWith z earlier r
+
+-- a record that turns its transaction back had to: granted, whatever the value of a read, it would be cyclic
+abbrev Rightly : Size → List Record → Record → Type 0
+Rightly z earlier r =
+    (r .kind ≡ read-conflict-kind → (value : List ℕ) → Cyclic z earlier (as-granted-read r value))
+    × (r .kind ≡ commit-conflict-kind → Cyclic z earlier (as-granted-commit r))
+
+-- ---- what is kept
+
+pub record Kept (z : Size) (m : Machine) : Type 0 where
+  pub mirror : Mirrored z (m .state .books) (m .day)
+  pub valued : Valued z m
+  pub explained : Explained z (m .day)
+  pub rightly : EachRecord (Rightly z) (m .day)
+
+-- ---- a judged call
+
+module _ (z : Size) (day : List Record) where
+  -- books that mirror the log with a record, and hold its transaction at a place, have the verdict of the log there
+  judged-says : (b : Books) (r : Record) (i : ℕ) → Mirrored z b (r ∷ day) → i < z .places → is-held (place-at b i) ≡ true
+      → whose day r ≡ place-at b i .begin → (has-cycle z b i ≡ true) ↔ CycleWith z day r
+  judged-says b r i mirror there held named =
+      rw named (Iff·trans (given-orders z b i .cycle-told) (cycle-mirrored z b (r ∷ day) mirror i there held))
+
+  -- with a cycle the record is cyclic
+  cyclic : (b : Books) (r : Record) → Mirrored z b (r ∷ day) → CycleWith z day r → Cyclic z day r
+  unfolding events event
+  cyclic b r mirror cycle =
+      record { walking = mirror .walking; known = who-transaction z (r ∷ day) (mirror .walking) (List·Memᴰ·head refl); cycle = cycle }
+
+module _ (z : Size) (m : Machine) (mirror : Mirrored z (m .state .books) (m .day)) where
+  abbrev b : Books
+  b = m .state .books
+
+  -- the books as they would be if a read, or a commit, were granted: the caller's place is held by the same transaction
+  module _ (h : ℕ) (caller : LiveCaller z b h) where
+    abbrev i : ℕ
+    i = place-of h
+
+    read-place : (c : ℕ) → place-at (read-books z b i c) i ≡ read-marked (place-at b i) c (number-of b)
+    unfolding read-books
+    read-place c = place-at-same i _ (mirror .shape) (place-of-below h)
+
+    commit-place : place-at (commit-books z b i) i ≡ sealed (place-at b i) (number-of b)
+    unfolding commit-books
+    commit-place = place-at-same i _ (mirror .shape) (place-of-below h)
+
+    pub read-held : (c : ℕ) → is-held (place-at (read-books z b i c) i) ≡ true
+    unfolding read-marked
+    read-held c = rw (read-place c) (ap held-status (caller .live))
+
+    pub read-begin : (c : ℕ) → place-at (read-books z b i c) i .begin ≡ place-at b i .begin
+    unfolding read-marked
+    read-begin c = ap (λ p. p .begin) (read-place c)
+
+    pub commit-held : is-held (place-at (commit-books z b i) i) ≡ true
+    unfolding sealed
+    commit-held = rw commit-place refl
+
+    pub commit-begin : place-at (commit-books z b i) i .begin ≡ place-at b i .begin
+    unfolding sealed
+    commit-begin = ap (λ p. p .begin) commit-place
+
+    -- so their verdict is that of the log with the record
+    read-says : (c : ℕ) (value : List ℕ) → let r = record-at judged-read-kind i (place-at b i) c value in
+        Mirrored z (read-books z b i c) (r ∷ m .day) → (has-cycle z (read-books z b i c) i ≡ true) ↔ CycleWith z (m .day) r
+    unfolding kind-starts
+    read-says c value then =
+        judged-says z (m .day) (read-books z b i c) _ i then (caller .place) (read-held c)
+        (caller-whose z m mirror h caller judged-read-kind c value refl ∙ sym (read-begin c))
+
+    commit-says : let r = record-at commit-kind i (place-at b i) 0 no-value in
+        Mirrored z (commit-books z b i) (r ∷ m .day) → (has-cycle z (commit-books z b i) i ≡ true) ↔ CycleWith z (m .day) r
+    unfolding kind-starts
+    commit-says then =
+        judged-says z (m .day) (commit-books z b i) _ i then (caller .place) commit-held
+        (caller-whose z m mirror h caller commit-kind 0 no-value refl ∙ sym commit-begin)
+
+-- ---- every call
+
+module _ (z : Size) (l : Lending) (m : Machine) (w : Within z) (kept : Kept z m) where
+  abbrev s : State
+  s = m .state
+
+  -- one record more
+  abbrev longer : State → Record → Machine
+  longer t r = record { state = t; day = r ∷ m .day; opening = m .opening }
+
+  adds-kept : (t : State) (r : Record) → Mirrored z (t .books) (r ∷ m .day) → Valued z (longer t r)
+      → (kind-judged-read (r .kind) || eqb (r .kind) commit-kind ≡ true → CycleWith z (m .day) r → ⊥) → Rightly z (m .day) r → Kept z (longer t r)
+  adds-kept t r mirror valued free rightly =
+      record {
+        mirror = mirror;
+        valued = valued;
+        explained = explained-more z r (m .day) (mirror .walking) (kept .explained) free;
+        rightly = each-cons (Rightly z) r (m .day) .1 (rightly, kept .rightly);
+      }
+
+  -- one that turns nobody back
+  goes-on : (r : Record) → eqb (r .kind) read-conflict-kind ≡ false → eqb (r .kind) commit-conflict-kind ≡ false → Rightly z (m .day) r
+  goes-on r read commit =
+      (λ e. absurd (eqb-false (r .kind) read-conflict-kind read e), λ e. absurd (eqb-false (r .kind) commit-conflict-kind commit e))
+
+  -- a new day
+  starts-kept : (t : State) → Mirrored z (new-day t .state .books) (new-day t .day) → Valued z (new-day t) → Kept z (new-day t)
+  unfolding new-day
+  starts-kept t mirror valued = record { mirror = mirror; valued = valued; explained = explained-new z; rightly = each-none (Rightly z) }
+
+  -- each of the two, call by call
+  abbrev mirrors : EachOutcome z l s (λ c o. Mirrored z (after-call m o .state .books) (after-call m o .day))
+  mirrors = mirrored-each z l m w (kept .mirror)
+
+  abbrev values : EachOutcome z l s (λ c o. AreBytes (value-taken c) → Valued z (after-call m o))
+  values = valued-each z l m w (kept .mirror) (kept .valued)
+
+  -- what a call leaves is kept, if the value that it takes is in bytes
+  kept-each : EachOutcome z l s (λ c o. AreBytes (value-taken c) → Kept z (after-call m o))
+  unfolding after-call moved-on refused open-rule begin-of write-of own-read-of granted-read-of show-of granted-commit-of turned-back give-up-of post-of order-of close-of recorded kind-judged-read
+  kept-each =
+      record {
+        on-refused = λ c n k j bytes. kept;
+        on-open = λ bytes. starts-kept _ (mirrors .on-open) (values .on-open bytes);
+        on-begin = λ asked bytes. adds-kept _ _ (mirrors .on-begin asked) (values .on-begin asked bytes) never (goes-on _ refl refl);
+        on-write = λ h c value asked bytes.
+            adds-kept _ _ (mirrors .on-write h c value asked) (values .on-write h c value asked bytes) never (goes-on _ refl refl);
+        on-own-read = λ h c asked own bytes.
+            adds-kept _ _ (mirrors .on-own-read h c asked own) (values .on-own-read h c asked own bytes) never (goes-on _ refl refl);
+        on-read = λ h c asked own free bytes.
+            let then = mirrors .on-read h c asked own free in
+            adds-kept _ _ then (values .on-read h c asked own free bytes)
+            (λ e cycle. clash (read-says z m (kept .mirror) h (asked .caller) c _ then .1 cycle) free) (goes-on _ refl refl);
+        on-read-back = λ h c asked own cycle bytes.
+            adds-kept _ _ (mirrors .on-read-back h c asked own cycle) (values .on-read-back h c asked own cycle bytes) never (
+              λ e value.
+                  let then = mirrored-read z l m w (kept .mirror) h c value asked own in
+                  cyclic z (m .day) _ _ then (read-says z m (kept .mirror) h (asked .caller) c value then .0 cycle),
+              λ e. absurd (omega arith),
+            );
+        on-show = λ given h c asked bytes. kept;
+        on-commit = λ h asked free bytes.
+            let then = mirrors .on-commit h asked free in
+            adds-kept _ _ then (values .on-commit h asked free bytes)
+            (λ e cycle. clash (commit-says z m (kept .mirror) h (asked .caller) then .1 cycle) free) (goes-on _ refl refl);
+        on-commit-back = λ h asked cycle bytes.
+            adds-kept _ _ (mirrors .on-commit-back h asked cycle) (values .on-commit-back h asked cycle bytes) never (
+              λ e. absurd (omega arith),
+              λ e.
+                  let then = mirrored-commit z l m w (kept .mirror) h asked in
+                  cyclic z (m .day) _ _ then (commit-says z m (kept .mirror) h (asked .caller) then .0 cycle),
+            );
+        on-give-up = λ h asked bytes. adds-kept _ _ (mirrors .on-give-up h asked) (values .on-give-up h asked bytes) never (goes-on _ refl refl);
+        on-post = λ c value asked bytes.
+            adds-kept _ _ (mirrors .on-post c value asked) (values .on-post c value asked bytes) never (goes-on _ refl refl);
+        on-order = λ h asked bytes. kept;
+        on-close = λ asked bytes. starts-kept _ (mirrors .on-close asked) (values .on-close asked bytes);
+      }
+
+-- ---- a run
+
+-- every call on a machine keeps it
+pub kept-after : (z : Size) (m : Machine) → Within z → Kept z m → (c : Call) → AreBytes (value-taken c) → Kept z (after-call m (outcome z c m))
+unfolding outcome
+kept-after z m w kept c = each-call z (lends z m) (m .state) _ (kept-each z (lends z m) m w kept) c
+
+-- a machine at the start of a day has it
+pub kept-new : (z : Size) (m : Machine) → Within z → Starts z m → Kept z m
+unfolding new-day
+kept-new z m w starts =
+    let none : m .day ≡ [] = ap (λ n. n .day) (starts .new) in
+    record {
+      mirror = subst (Mirrored z (m .state .books)) (sym none) (mirrored-new z (m .state .books) w (starts .books));
+      valued = valued-new z m starts;
+      explained = subst (Explained z) (sym none) (explained-new z);
+      rightly = subst (EachRecord (Rightly z)) (sym none) (each-none (Rightly z));
+    }
+
+-- so any run does
+pub kept-ran : (z : Size) (calls : List Call) (m : Machine) → Within z → InBytes calls → Kept z m → Kept z (ran z calls m)
+unfolding played
+kept-ran z [] m w bytes kept = kept
+kept-ran z (c ∷ calls) m w bytes kept =
+    kept-ran z calls (after-call m (outcome z c m)) w (λ d i. bytes d (List·Memᴰ·tail i)) (kept-after z m w kept c (bytes c (List·Memᴰ·head refl)))
+
+-- and every machine that a run has come to has it
+pub reached-kept : (z : Size) (m : Machine) → Within z → Reached z m → Kept z m
+reached-kept z m w r = subst (Kept z) (sym (r .come-to)) (kept-ran z (r .calls) (r .start) w (r .in-bytes) (kept-new z (r .start) w (r .starts)))

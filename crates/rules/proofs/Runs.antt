@@ -1,0 +1,218 @@
+-- The theorems over runs: the log reads back, every order that is given is accepted, and a judged call meets Conflict exactly when, were it granted, no
+-- list would be accepted. Rests on what every call keeps (Running) and on what a verdict says (Verdicts, Explaining). Assumes nothing.
+use Prim.Native.Nat.{ℕ, _<_}
+use mathlib.Core.Path.{_≡_, refl, sym, _∙_, ap, subst}
+use mathlib.Core.Logic.{_↔_, ⊎-elim, Iff·trans}
+use mathlib.Core.Bool.{true, false, cond}
+use mathlib.Core.List.{List, [], _∷_}
+use lib.ListN.{length, take}
+use native.Mathlib.Omega.{arith}
+use borrow.Author.Tests.{eq-eqb}
+use Rattle.basics.specs.Bytes.{part}
+use Rattle.basics.specs.Walk.{Cycle}
+use Rattle.basics.proofs.Bools.{false-of-not, cond-passes, cond-fails, cond-not}
+use Rattle.basics.proofs.Bytes.{part-splice}
+use Rattle.rules.specs.declared.Record.{Record}
+use Rattle.rules.specs.Sizes.{Size, Within, table-bytes, order-numbers}
+use Rattle.rules.specs.Books.{Books, place-at, held-status, is-held}
+use Rattle.rules.specs.Handles.{place-of, is-stale}
+use Rattle.rules.specs.Judging.{HasCycle, has-cycle, given-order}
+use Rattle.rules.specs.Numbers.{granted, conflict, no-order, first-reason}
+use Rattle.rules.specs.State.{Outcome, buffer-after, recorded, refused, unless-refused}
+use Rattle.rules.specs.Calls.{Read, Commit, Order, issued}
+use Rattle.rules.specs.Steps.{soundness-reason, granted-read-of, granted-commit-of, order-reasons, order-of, order-rule}
+use Rattle.rules.specs.Kept.{LiveCaller}
+use Rattle.rules.specs.Run.{Machine, lends, outcome, new-day, moved-on, after-call}
+use Rattle.rules.specs.Day.{events, is-transaction}
+use Rattle.rules.specs.Checker.{accepted, log-events, checked}
+use Rattle.rules.specs.Runs.{ran, told-run, RunsReadBack, holder, checked-on, GivesOrders, OrdersAccepted, DayPair, read-granted, commit-granted, MeetsNone, reads-own, ConflictExactly, ConflictsMet}
+use Rattle.rules.proofs.Asked.{held-asked, order-asked}
+use Rattle.rules.proofs.EachCall.{refused-or}
+use Rattle.rules.proofs.Explaining.{accepted-of, cycle-no-list}
+use Rattle.rules.proofs.Handled.{read-met, commit-met, read-verdict, commit-verdict, read-granted-is, commit-granted-is, holder-is, reads-own-is}
+use Rattle.rules.proofs.Judging.{given-orders}
+use Rattle.rules.proofs.Mirror.{Mirrored, Valued}
+use Rattle.rules.proofs.Mirrored.{mirrored-read, mirrored-commit}
+use Rattle.rules.proofs.Running.{Kept, kept-new, kept-ran, reached-kept, read-held, read-begin, commit-held, commit-begin}
+use Rattle.rules.proofs.Sound.{sound-says}
+use Rattle.rules.proofs.Told.{told-run-right, closes-right, stands-right}
+use Rattle.rules.proofs.CellsWritten.{valued-commit}
+use Rattle.rules.proofs.CellsRead.{valued-read}
+use Rattle.rules.proofs.PairsMirrored.{transaction-mirrored}
+use Rattle.rules.proofs.Verdicts.{cycle-mirrored, order-lists, order-keeps}
+
+-- ---- the checker on the log as it stands
+
+-- a machine with mirrored books, right bytes and a held place: the checker answers for its transaction by the day's events
+module _ (z : Size) (m : Machine) (mirror : Mirrored z (m .state .books) (m .day)) (valued : Valued z m) (i : ℕ) (there : i < z .places)
+    (held : is-held (place-at (m .state .books) i) ≡ true) where
+  abbrev b : Books
+  b = m .state .books
+
+  -- the transaction, which is one of the day
+  abbrev t : ℕ
+  t = place-at b i .begin
+
+  known : is-transaction (events (m .day)) t ≡ true
+  known = transaction-mirrored z b (m .day) mirror i there held
+
+  -- the number is 0 or 12, as the list is accepted
+  checked-says : (order : List ℕ) → checked-on z m (m .day) t order ≡ cond (accepted z (m .opening) (events (m .day)) t order) granted no-order
+  unfolding checked first-reason log-events
+  checked-says order =
+      let back = stands-right z b (m .day) mirror (valued .proper) in
+      rw (eq-eqb (length (m .opening)) (table-bytes z) (valued .opening-length), back .0, back .1, known)
+      (cond-not (accepted z (m .opening) (events (m .day)) t order) granted no-order)
+
+  -- with a cycle it is 12 for every list
+  cyclic-refused : Cycle (DayPair z (events (m .day)) t) → (order : List ℕ) → checked-on z m (m .day) t order ≡ no-order
+  cyclic-refused cycle order = checked-says order ∙ cond-fails granted no-order (cycle-no-list z (m .day) t cycle (m .opening) order)
+
+  -- without one it is 0 for the given order
+  order-granted : has-cycle z b i ≡ false → checked-on z m (m .day) t (given-order z b i) ≡ granted
+  order-granted free =
+      checked-says (given-order z b i)
+      ∙ cond-passes granted no-order
+      (accepted-of z (m .opening) (m .day) t (mirror .walking) known (valued .legal) (given-order z b i) (order-lists z b (m .day) mirror i there held free)
+      (order-keeps z b (m .day) mirror i there held))
+
+-- ---- read-back
+
+pub runs-read-back : RunsReadBack
+unfolding new-day
+runs-read-back z calls start w starts bytes =
+    let new = kept-new z start w starts in
+    let kept = kept-ran z calls start w bytes new in
+    let none : start .day ≡ [] = ap (λ n. n .day) (starts .new) in
+    let back = stands-right z _ _ (kept .mirror) (kept .valued .proper) in
+    let told : told-run z calls start [] ≡ ran z calls start .day =
+    subst (λ (day : List Record). told-run z calls start day ≡ ran z calls start .day) none (told-run-right z calls start w (new .mirror)) in
+    record {
+      laid-out = back .0;
+      events-back = back .1 ∙ sym told;
+      counted = kept .mirror .counted ∙ ap length (sym told);
+      closes = closes-right z (ran z calls start) w (kept .mirror);
+    }
+
+-- ---- orders
+
+module _ (z : Size) (m : Machine) (w : Within z) (kept : Kept z m) where
+  abbrev books : Books
+  books = m .state .books
+
+  abbrev mirror : Mirrored z (m .state .books) (m .day)
+  mirror = kept .mirror
+
+  -- an order of a held handle without a cycle is accepted
+  order-accepted : (h : ℕ) → place-of h < z .places → is-held (place-at books (place-of h)) ≡ true → has-cycle z books (place-of h) ≡ false
+      → checked-on z m (m .day) (holder (m .day) h) (given-order z books (place-of h)) ≡ granted
+  order-accepted h there held free =
+      rw (holder-is z m mirror h there held) (order-granted z m mirror (kept .valued) (place-of h) there held free)
+
+  -- what an order call leaves in the front of the buffer is the order
+  order-in-front : (i : ℕ) (buffer : List ℕ) → let order = given-order z books i in take (length order) (buffer-after order buffer) ≡ order
+  unfolding buffer-after part
+  order-in-front i buffer = part-splice 0 (given-order z books i) buffer (omega arith) (length (given-order z books i)) refl
+
+  order-right : (h : ℕ) (buffer : List ℕ) → let o = outcome z (Order h) m in
+      o .number ≡ granted → checked-on z m (m .day) (holder (m .day) h) (take (o .answer) (buffer-after (o .order) buffer)) ≡ granted
+  unfolding outcome issued order-rule order-of refused
+  order-right h buffer =
+      refused-or
+      (λ o. o .number ≡ granted → checked-on z m (m .day) (holder (m .day) h) (take (o .answer) (buffer-after (o .order) buffer)) ≡ granted) _ (m .state) _
+      (λ n other e. absurd (other e)) λ g e.
+      let asked = order-asked z (order-numbers z) books h g in
+      ap (checked-on z m (m .day) (holder (m .day) h)) (order-in-front (place-of h) buffer)
+      ∙ order-accepted h (asked .caller .place) (asked .caller .held) (asked .no-cycle)
+
+  -- nobody who holds a place has a cycle
+  nobody-cyclic : (i : ℕ) → i < z .places → is-held (place-at books i) ≡ true → has-cycle z books i ≡ false
+  nobody-cyclic i there held =
+      false-of-not _ λ t.
+      kept .explained .each (place-at books i .begin) (transaction-mirrored z books (m .day) mirror i there held)
+      (cycle-mirrored z books (m .day) mirror i there held .0 (given-orders z books i .cycle-told .0 t))
+
+  order-given : (h : ℕ) → is-stale z books h ≡ false → outcome z (Order h) m .number ≡ granted
+  unfolding outcome issued order-rule order-of order-reasons soundness-reason first-reason unless-refused
+  order-given h here =
+      let caller = held-asked z books h (mirror .sound) here in
+      rw (eq-eqb (order-numbers z) (order-numbers z) refl, sound-says z books .1 (mirror .sound), here, nobody-cyclic (place-of h) (caller .place) (caller .held)) refl
+
+  pub orders-given : GivesOrders z m
+  orders-given = record { accepted = λ h buffer right. order-right h buffer; given = order-given }
+
+-- ---- Conflict
+
+-- a judged call weighed with the record that it would add: the machine n is the one that it would leave
+module _ (z : Size) (i : ℕ) (o : Outcome) (n : Machine) (mirror : Mirrored z (n .state .books) (n .day)) (valued : Valued z n) (there : i < z .places)
+    (held : is-held (place-at (n .state .books) i) ≡ true) (meets : MeetsNone o) (verdict : (o .number ≡ conflict) ↔ HasCycle z (n .state .books) i) where
+  -- the transaction
+  abbrev who : ℕ
+  who = place-at (n .state .books) i .begin
+
+  weighed-cycle : (o .number ≡ conflict) ↔ Cycle (DayPair z (events (n .day)) who)
+  weighed-cycle = Iff·trans verdict (cycle-mirrored z (n .state .books) (n .day) mirror i there held)
+
+  -- a granted call has no cycle, and so its order is accepted
+  granted-some : o .number ≡ granted → ((order : List ℕ) → checked-on z n (n .day) who order ≡ no-order) → ⊥
+  granted-some on none =
+      let order = given-order z (n .state .books) i in
+      let free = false-of-not _ (λ c. let met = verdict .1 (given-orders z (n .state .books) i .cycle-told .0 c) in omega arith) in
+      let zero = order-granted z n mirror valued i there held free in
+      let twelve = none order in
+      omega arith
+
+  weighed-lists : (o .number ≡ conflict) ↔ ((order : List ℕ) → checked-on z n (n .day) who order ≡ no-order)
+  weighed-lists = (
+    λ met. cyclic-refused z n mirror valued i there held (weighed-cycle .0 met),
+    λ none. ⊎-elim (λ on. absurd (granted-some on none)) (λ met. met) meets,
+  )
+
+module _ (z : Size) (m : Machine) (w : Within z) (kept : Kept z m) where
+  -- told of the log with the record: the record is that of a granted call, and the transaction the one at the handle's place
+  exactly : (h : ℕ) (r : Record) (o : Outcome) (n : Machine) → n .day ≡ r ∷ m .day → n .opening ≡ m .opening → Mirrored z (n .state .books) (n .day) → Valued z n
+      → place-of h < z .places → is-held (place-at (n .state .books) (place-of h)) ≡ true → holder (m .day) h ≡ place-at (n .state .books) (place-of h) .begin
+      → MeetsNone o → (o .number ≡ conflict) ↔ HasCycle z (n .state .books) (place-of h) → ConflictExactly z m h r o
+  exactly h r o n day opening mirror valued there held named meets verdict =
+      record {
+        by-cycle = rw (← day, named) (weighed-cycle z (place-of h) o n mirror valued there held meets verdict);
+        by-lists = rw (← day, ← opening, named) (weighed-lists z (place-of h) o n mirror valued there held meets verdict);
+      }
+
+  -- the transaction of a live caller, by the log
+  caller-is : (h : ℕ) → LiveCaller z (m .state .books) h → holder (m .day) h ≡ place-at (m .state .books) (place-of h) .begin
+  caller-is h caller = holder-is z m (kept .mirror) h (caller .place) (ap held-status (caller .live))
+
+  pub conflict-at-read : (h c : ℕ) → MeetsNone (outcome z (Read h c) m) → reads-own (m .day) h c ≡ false
+      → ConflictExactly z m h (read-granted m h c) (outcome z (Read h c) m)
+  unfolding after-call moved-on granted-read-of recorded
+  conflict-at-read h c meets other =
+      let mirror = kept .mirror in
+      let l = lends z m in
+      let asked = read-met z m h c meets in
+      let caller = asked .caller in
+      let own = sym (reads-own-is z m mirror h c caller (asked .cell)) ∙ other in
+      exactly h (read-granted m h c) _ (after-call m (granted-read-of z (m .state) (place-of h) c)) (ap (λ r. r ∷ m .day) (sym (read-granted-is z m h c caller))) refl
+      (mirrored-read z l m w mirror h c _ asked own) (valued-read z l m w mirror (kept .valued) h c asked) (caller .place) (read-held z m mirror h caller c)
+      (caller-is h caller ∙ sym (read-begin z m mirror h caller c)) meets (read-verdict z m mirror h c meets other)
+
+  pub conflict-at-commit : (h : ℕ) → MeetsNone (outcome z (Commit h) m) → ConflictExactly z m h (commit-granted h) (outcome z (Commit h) m)
+  unfolding after-call moved-on granted-commit-of recorded
+  conflict-at-commit h meets =
+      let mirror = kept .mirror in
+      let l = lends z m in
+      let asked = commit-met z m h meets in
+      let caller = asked .caller in
+      exactly h (commit-granted h) _ (after-call m (granted-commit-of z (m .state) (place-of h))) (ap (λ r. r ∷ m .day) (sym (commit-granted-is z m h caller))) refl
+      (mirrored-commit z l m w mirror h asked) (valued-commit z l m w mirror (kept .valued) h asked) (caller .place) (commit-held z m mirror h caller)
+      (caller-is h caller ∙ sym (commit-begin z m mirror h caller)) meets (commit-verdict z m h meets)
+
+-- ---- every machine that a run has come to
+
+pub orders-accepted : OrdersAccepted
+orders-accepted z m w r = orders-given z m w (reached-kept z m w r)
+
+pub conflicts-met : ConflictsMet
+conflicts-met z m w r =
+    let kept = reached-kept z m w r in
+    record { at-read = conflict-at-read z m w kept; at-commit = conflict-at-commit z m w kept }
