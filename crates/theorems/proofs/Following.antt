@@ -1,0 +1,306 @@
+-- A run of the machine's calls is a run of the rules: what the caller knows stands for a machine of the rules whose day the lent log holds, and every
+-- call keeps that. Rests on what each call leaves of all that is lent (machine), on the log that joins the day, and on what every call of the rules
+-- keeps. Assumes nothing.
+use Prim.Native.Nat.{ℕ, _≤_}
+use mathlib.Core.Path.{_≡_, refl, sym, _∙_, ap, subst}
+use mathlib.Core.Logic.{_≢_}
+use mathlib.Core.Bool.{Bool, true, cond}
+use mathlib.Core.List.{List, []}
+use lib.ListN.{length}
+use lib.Dec.{eqb}
+use native.Mathlib.Omega.{arith}
+use borrow.Author.Tests.{ne-eqb}
+use Rattle.basics.specs.Bytes.{AreBytes}
+use Rattle.basics.proofs.Bytes.{splice-length}
+use Rattle.rules.specs.declared.Size.{Size}
+use Rattle.rules.specs.Sizes.{yard, order-numbers, log-bytes}
+use Rattle.rules.specs.Books.{opened}
+use Rattle.rules.specs.Numbers.{granted, conflict}
+use Rattle.rules.specs.Daylog.{commit-total, day-of}
+use Rattle.rules.specs.State.{State, Entry, nothing, adds, closes, opens, Outcome, refused, recorded, state-of, log-after, buffer-after, shown-bytes}
+use Rattle.rules.specs.Calls.{Call, Open, Begin, Write, Read, Show, Commit, GiveUp, Post, Order, Close, issued}
+use Rattle.rules.specs.Handles.{place-of}
+use Rattle.rules.specs.Steps.{turned-back, open-rule, order-rule, order-reasons, begin-of, write-of, own-read-of, granted-read-of, show-of, granted-commit-of, give-up-of, post-of, order-of, close-of}
+use Rattle.rules.specs.Run.{Machine, lends, outcome, new-day, moved-on, after-call}
+use Rattle.rules.specs.Kept.{Joined, lent-with}
+use Rattle.rules.specs.Runs.{value-taken, told, told-call, shown-behind, shown-on, Starts}
+use Rattle.rules.proofs.Shape.{yard-within}
+use Rattle.rules.proofs.EachCall.{EachOutcome, refused-or, each-call, is-judged}
+use Rattle.rules.proofs.Judging.{order-length}
+use Rattle.rules.proofs.Joined.{log-joins-day}
+use Rattle.rules.proofs.Reasons.{refusals-change-nothing}
+use Rattle.rules.proofs.Running.{Kept, kept-new, kept-after}
+use Rattle.rules.proofs.Told.{told-right}
+use Rattle.rules.proofs.Unlent.{unlent}
+use Rattle.machine.specs.declared.books.Books.{Books}
+use Rattle.machine.specs.declared.books.Answer.{Answer}
+use Rattle.machine.specs.View.{view, books-back, answer-of}
+use Rattle.machine.specs.Promises.{read-outcome, commit-outcome, order-outcome, close-outcome, LeavesLog, LeavesTable, LeavesBuffer}
+use Rattle.machine.specs.Called.{call-of, lent-to}
+use Rattle.machine.proofs.Issuing.{Left, neither-left, write-left, post-left, read-left, commit-left, order-left, open-left}
+use Rattle.theorems.specs.Calling.{Held, Called, open-called, begin-called, write-called, read-called, show-called, commit-called, give-up-called, post-called, order-called, close-called, stepped-called, ShownBehind, renews, Known, known-then, Run, start, goes-on}
+
+-- the machine of the rules that a caller's knowledge stands for
+abbrev pub machine-of : Known → Machine
+machine-of k = record { state = state-of (view (k .held .books)) (k .held .table) (k .held .drafts); day = k .day; opening = k .opening }
+
+-- it has what every call keeps, and the lent log holds its day
+pub record Follows (k : Known) : Type 0 where
+  pub kept : Kept yard (machine-of k)
+  pub joined : Joined (machine-of k) (k .held .log)
+  pub numbers : length (k .held .numbers) ≡ order-numbers yard
+
+-- ---- the machine after a call
+
+-- its state is that of the outcome, its day and opening are told
+moved-state : (m : Machine) (s : State) (entry : Entry) → moved-on m s entry .state ≡ s
+unfolding moved-on new-day
+moved-state m s nothing = refl
+moved-state m s (adds r) = refl
+moved-state m s (closes records total) = refl
+moved-state m s opens = refl
+
+-- machines with the same state, day and opening are one
+same-machine : (a b : Machine) → a .state ≡ b .state → a .day ≡ b .day → a .opening ≡ b .opening → a ≡ b
+same-machine a b s d p =
+    ap (λ x. record { state = x; day = a .day; opening = a .opening }) s
+    ∙ ap (λ x. record { state = b .state; day = x; opening = a .opening }) d
+    ∙ ap (λ x. record { state = b .state; day = b .day; opening = x }) p
+
+-- the table at the opening or the last close, told by the call and its number
+module _ (z : Size) (m : Machine) where
+  abbrev OpeningTold : Call → Outcome → Type 0
+  OpeningTold c o = o ≡ outcome z c m → after-call m o .opening ≡ cond (renews c (o .number)) (o .after .table) (m .opening)
+
+  opening-each : EachOutcome z (lends z m) (m .state) OpeningTold
+  unfolding after-call moved-on new-day refused open-rule begin-of write-of own-read-of granted-read-of show-of granted-commit-of turned-back give-up-of post-of order-of close-of recorded outcome issued
+  opening-each =
+      record {
+        on-refused = refused-told;
+        on-open = λ q. refl;
+        on-begin = λ asked q. refl;
+        on-write = λ h c value asked q. refl;
+        on-own-read = λ h c asked own q. refl;
+        on-read = λ h c asked own free q. refl;
+        on-read-back = λ h c asked own cycle q. refl;
+        on-show = λ given h c asked q. refl;
+        on-commit = λ h asked free q. refl;
+        on-commit-back = λ h asked cycle q. refl;
+        on-give-up = λ h asked q. refl;
+        on-post = λ c value asked q. refl;
+        on-order = λ h asked q. refl;
+        on-close = λ asked q. refl;
+      }
+    where
+      refused-told : (c : Call) (n : ℕ) → n ≢ granted → (is-judged c ≡ true → n ≢ conflict) → refused n (m .state) ≡ outcome z c m
+          → m .opening ≡ cond (renews c n) (m .state .table) (m .opening)
+      refused-told Open n k j q = absurd (k (ap (λ o. o .number) q))
+      refused-told Begin n k j q = refl
+      refused-told (Write h c value) n k j q = refl
+      refused-told (Read h c) n k j q = refl
+      refused-told (Show given h c) n k j q = refl
+      refused-told (Commit h) n k j q = refl
+      refused-told (GiveUp h) n k j q = refl
+      refused-told (Post c value) n k j q = refl
+      refused-told (Order h) n k j q = refl
+      refused-told Close n k j q = rw (ne-eqb n granted k)
+
+  opening-right : (c : Call) → OpeningTold c (outcome z c m)
+  unfolding outcome
+  opening-right c = each-call z (lends z m) (m .state) OpeningTold opening-each c
+
+-- no number at all is at most as many as places
+none : (z : Size) → 0 ≤ order-numbers z
+none z = omega arith
+
+-- an order has at most as many numbers as places, and no other call gives one
+order-few : (z : Size) (m : Machine) (c : Call) → length (outcome z c m .order) ≤ order-numbers z
+unfolding outcome refused open-rule begin-of write-of own-read-of granted-read-of show-of granted-commit-of turned-back give-up-of post-of order-of close-of recorded
+order-few z m c =
+    each-call z (lends z m) (m .state) (λ c o. length (o .order) ≤ order-numbers z)
+    (record {
+      on-refused = λ c n k j. none z;
+      on-open = none z;
+      on-begin = λ asked. none z;
+      on-write = λ h c value asked. none z;
+      on-own-read = λ h c asked own. none z;
+      on-read = λ h c asked own free. none z;
+      on-read-back = λ h c asked own cycle. none z;
+      on-show = λ given h c asked. none z;
+      on-commit = λ h asked free. none z;
+      on-commit-back = λ h asked cycle. none z;
+      on-give-up = λ h asked. none z;
+      on-post = λ c value asked. none z;
+      on-order = λ h asked. order-length z (m .state .books) (place-of h);
+      on-close = λ asked. none z;
+    })
+    c
+
+-- ---- one call
+
+-- what a caller is shown is what the rules show behind the call
+shown-same : (c : Call) (number : ℕ) (k : Held) (shown : List ℕ) (m : Machine) → m .state ≡ state-of (view (k .books)) (k .table) (k .drafts)
+    → ShownBehind c number k shown → shown ≡ shown-behind yard c number m
+unfolding shown-on outcome issued
+shown-same Open number k shown m q e = e
+shown-same Begin number k shown m q e = e
+shown-same (Write h c value) number k shown m q e = e
+shown-same (Read h c) number k shown m q e = rw q e
+shown-same (Show given h c) number k shown m q e = e
+shown-same (Commit h) number k shown m q e = e
+shown-same (GiveUp h) number k shown m q e = e
+shown-same (Post c value) number k shown m q e = e
+shown-same (Order h) number k shown m q e = e
+shown-same Close number k shown m q e = e
+
+module _ (k : Known) (follows : Follows k) where
+  -- what is held, and the machine that it stands for
+  abbrev held : Held
+  held = k .held
+
+  abbrev m : Machine
+  m = machine-of k
+
+  -- what the call is issued on is lent as the machine lends it
+  lent-same : (c : Call) → issued yard (lent-to (held .books) (held .log) (held .numbers)) c (m .state) ≡ outcome yard c m
+  lent-same c =
+      ap (λ n. issued yard (record { log = length (held .log); buffer = n; total = commit-total (day-of (held .log) (held .books .records)) }) c (m .state)) (follows .numbers)
+      ∙ log-joins-day .own-outcome yard c m (held .log) (follows .joined)
+
+  module _ (c : Call) (bytes : AreBytes (value-taken c)) (number answer : ℕ) (shown : List ℕ) (after : Held) (behind : ShownBehind c number after shown) where
+    abbrev o : Outcome
+    o = outcome yard c m
+
+    -- the knowledge after the call, and the machine after it
+    abbrev next : Known
+    next = known-then k c number answer shown after
+
+    joined-then : Joined (after-call m o) (log-after (held .books .records) (o .entry) (held .log))
+    joined-then =
+        subst (λ (x : Outcome). Joined (after-call m x) (log-after (held .books .records) (x .entry) (held .log)))
+        (log-joins-day .own-outcome yard c m (held .log) (follows .joined))
+        (log-joins-day .after yard (order-numbers yard) c m (held .log) (follows .joined))
+
+    -- the call leaves what its rule does
+    module _ (told-number : number ≡ o .number) (told-answer : answer ≡ o .answer)
+        (told-state : state-of (view (after .books)) (after .table) (after .drafts) ≡ o .after) where
+      state-then : after-call m o .state ≡ state-of (view (after .books)) (after .table) (after .drafts)
+      unfolding after-call
+      state-then = moved-state m (o .after) (o .entry) ∙ sym told-state
+
+      day-then : after-call m o .day ≡ next .day
+      unfolding told-call
+      day-then =
+          let behind-it = shown-same c number after shown (after-call m o) state-then behind in
+          sym (told-right yard m yard-within (follows .kept .mirror) c)
+          ∙ ap (λ n. told (m .day) c n (o .answer) (shown-behind yard c n (after-call m o))) (sym told-number)
+          ∙ ap (λ a. told (m .day) c number a (shown-behind yard c number (after-call m o))) (sym told-answer)
+          ∙ ap (told (m .day) c number answer) (sym behind-it)
+
+      opening-then : after-call m o .opening ≡ next .opening
+      opening-then =
+          opening-right yard m c refl
+          ∙ ap (λ n. cond (renews c n) (o .after .table) (m .opening)) (sym told-number)
+          ∙ ap (λ s. cond (renews c number) (s .table) (m .opening)) (sym told-state)
+
+      machine-then : after-call m o ≡ machine-of next
+      machine-then = same-machine (after-call m o) (machine-of next) state-then day-then opening-then
+
+      pub follows-then : after .log ≡ log-after (held .books .records) (o .entry) (held .log) → length (after .numbers) ≡ order-numbers yard → Follows next
+      follows-then told-log right =
+          record {
+            kept = subst (Kept yard) machine-then (kept-after yard m yard-within (follows .kept) c bytes);
+            joined = subst (λ (n : Machine). Joined n (after .log)) machine-then (subst (Joined (after-call m o)) (sym told-log) joined-then);
+            numbers = right;
+          }
+
+  -- what a call leaves of all that is lent, by its outcome on the machine
+  module _ (c : Call) (r : Answer) (table drafts log numbers : List ℕ)
+      (left : Left (held .books) (held .table) (held .drafts) (held .log) (held .numbers) c r table drafts log numbers) where
+    pub answer-left : r ≡ answer-of (outcome yard c m)
+    answer-left = left .0 ∙ ap answer-of (lent-same c)
+
+    pub log-left : log ≡ log-after (held .books .records) (outcome yard c m .entry) (held .log)
+    log-left = left .1 .1 .1 .0 ∙ ap (λ x. log-after (held .books .records) (x .entry) (held .log)) (lent-same c)
+
+    pub numbers-left : numbers ≡ buffer-after (outcome yard c m .order) (held .numbers)
+    numbers-left = left .1 .1 .1 .1 ∙ ap (λ x. buffer-after (x .order) (held .numbers)) (lent-same c)
+
+    state-left : state-of (view (r .books)) table drafts ≡ outcome yard c m .after
+    state-left =
+        let s = outcome yard c m .after in
+        ap (λ a. state-of (view (a .books)) table drafts) answer-left
+        ∙ ap (λ t. state-of (s .books) t drafts) (left .1 .0 ∙ ap (λ x. x .after .table) (lent-same c))
+        ∙ ap (state-of (s .books) (s .table)) (left .1 .1 .0 ∙ ap (λ x. x .after .drafts) (lent-same c))
+
+    -- the lent numbers keep their length
+    length-left : length numbers ≡ order-numbers yard
+    unfolding buffer-after
+    length-left =
+        ap length numbers-left ∙ splice-length 0 _ (held .numbers) (omega (arith, follows .numbers, order-few yard m c)) ∙ follows .numbers
+
+    left-then : AreBytes (value-taken c) → (shown : List ℕ) → let after : Held = record { books = r .books; table = table; drafts = drafts; log = log; numbers = numbers } in
+        ShownBehind c (r .number) after shown → Follows (known-then k c (r .number) (r .answer) shown after)
+    left-then bytes shown behind =
+        follows-then c bytes (r .number) (r .answer) shown (record { books = r .books; table = table; drafts = drafts; log = log; numbers = numbers }) behind
+        (ap (λ a. a .number) answer-left) (ap (λ a. a .answer) answer-left) state-left log-left length-left
+
+  -- each call leaves it so
+  abbrev All : Call → Answer → List ℕ → List ℕ → List ℕ → List ℕ → Type 0
+  All = Left (held .books) (held .table) (held .drafts) (held .log) (held .numbers)
+
+  pub read-all : (h c : ℕ) {r : Answer} {log : List ℕ} → LeavesLog (held .books .records) (held .log) (read-outcome (held .books) h c (held .table) (held .drafts) (held .log)) r log
+      → All (Read h c) r (held .table) (held .drafts) log (held .numbers)
+  read-all h c left = read-left (held .books) (held .table) (held .drafts) (held .log) (held .numbers) h c left
+
+  pub commit-all : (h : ℕ) {r : Answer} {table log : List ℕ}
+      → LeavesTable (held .books .records) (held .log) (commit-outcome (held .books) h (held .table) (held .drafts) (held .log)) r table log
+      → All (Commit h) r table (held .drafts) log (held .numbers)
+  commit-all h left = commit-left (held .books) (held .table) (held .drafts) (held .log) (held .numbers) h left
+
+  pub order-all : (h : ℕ) {r : Answer} {numbers : List ℕ} → LeavesBuffer (held .numbers) (order-outcome (held .books) h (held .numbers)) r numbers
+      → All (Order h) r (held .table) (held .drafts) (held .log) numbers
+  order-all h left = order-left (held .books) (held .table) (held .drafts) (held .log) (held .numbers) h left
+
+  pub close-all : {r : Answer} {log : List ℕ} → LeavesLog (held .books .records) (held .log) (close-outcome (held .books) (held .log)) r log
+      → All Close r (held .table) (held .drafts) log (held .numbers)
+  unfolding issued
+  close-all left =
+      neither-left (held .books) (held .table) (held .drafts) (held .log) (held .numbers) Close refl (unlent .of-close yard (length (held .log)) _ (m .state)) left
+
+  -- every call of the machine
+  pub called-then : {c : Call} {number answer : ℕ} {after : Held} → Called held c number answer after → (shown : List ℕ) → AreBytes (value-taken c)
+      → ShownBehind c number after shown → Follows (known-then k c number answer shown after)
+  unfolding issued told open-rule
+  called-then (open-called {b} e) shown bytes behind =
+      left-then Open (record { number = granted; answer = 0; books = b }) _ _ _ _
+      (open-left (held .books) (held .table) (held .drafts) (held .log) (held .numbers) (ap (λ x. record { number = granted; answer = 0; books = x }) e)) bytes shown behind
+  called-then (begin-called {r} left) shown bytes behind =
+      left-then Begin r _ _ _ _
+      (neither-left (held .books) (held .table) (held .drafts) (held .log) (held .numbers) Begin refl (unlent .of-begin yard (length (held .log)) (m .state)) left) bytes
+      shown behind
+  called-then (write-called {h} {c} {value} {r} left) shown bytes behind =
+      left-then (Write h c value) r _ _ _ _ (write-left (held .books) (held .table) (held .drafts) (held .log) (held .numbers) h c value left) bytes shown behind
+  called-then (read-called {h} {c} {r} left) shown bytes behind = left-then (Read h c) r _ _ _ _ (read-all h c left) bytes shown behind
+  called-then show-called shown bytes behind = follows
+  called-then (commit-called {h} {r} left) shown bytes behind = left-then (Commit h) r _ _ _ _ (commit-all h left) bytes shown behind
+  called-then (give-up-called {h} {r} left) shown bytes behind =
+      left-then (GiveUp h) r _ _ _ _
+      (neither-left (held .books) (held .table) (held .drafts) (held .log) (held .numbers) (GiveUp h) refl (unlent .of-give-up yard (length (held .log)) (m .state) h) left)
+      bytes shown behind
+  called-then (post-called {c} {value} {r} left) shown bytes behind =
+      left-then (Post c value) r _ _ _ _ (post-left (held .books) (held .table) (held .drafts) (held .log) (held .numbers) c value left) bytes shown behind
+  called-then (order-called {h} {r} left) shown bytes behind =
+      left-then (Order h) r _ _ _ _ (order-all h left) bytes shown behind
+  called-then (close-called {r} left) shown bytes behind = left-then Close r _ _ _ _ (close-all left) bytes shown behind
+  called-then (stepped-called call value {r} left) shown bytes behind = left-then (call-of call value) r _ _ _ _ left bytes shown behind
+
+-- ---- a run
+
+-- from the start of a day, and with every call
+pub run-follows : {k : Known} → Run k → Follows k
+unfolding new-day
+run-follows (start {k} books lends) =
+    let kept = kept-new yard (new-day (state-of (view (k .books)) (k .table) (k .drafts))) yard-within (record { books = books; table = lends .table; drafts = lends .drafts; new = refl }) in
+    record { kept = kept; joined = log-joins-day .new _ (k .log) (kept .mirror .counted) (lends .log); numbers = lends .numbers }
+run-follows (goes-on k c number answer shown after run bytes called behind) = called-then k (run-follows run) called shown bytes behind

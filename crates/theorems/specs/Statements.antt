@@ -1,0 +1,87 @@
+-- What is proved of every run of the machine's calls, against the checker's and the layout's own promises: the types of the theorems, to be read
+-- without their proofs. `Run` is any list of calls from an opening or a close, any number of days.
+use Prim.Native.Nat.{ℕ, _+_, _*_}
+use mathlib.Core.Path.{_≡_}
+use mathlib.Core.Logic.{_↔_, _⊎_}
+use mathlib.Core.Bool.{false}
+use mathlib.Core.List.{List, _∷_, _++_}
+use lib.ListN.{length, take}
+use Rattle.basics.specs.Bytes.{part}
+use Rattle.basics.specs.Walk.{Cycle}
+use Rattle.rules.specs.declared.Record.{Record}
+use Rattle.rules.specs.Sizes.{yard, record-bytes}
+use Rattle.rules.specs.Handles.{is-stale}
+use Rattle.rules.specs.Numbers.{granted, conflict, no-order}
+use Rattle.rules.specs.Cells.{cell-of}
+use Rattle.rules.specs.Daylog.{judged-read-kind, commit-kind, no-value, standing, records-in, day-of}
+use Rattle.rules.specs.Day.{events}
+use Rattle.rules.specs.Checker.{checked}
+use Rattle.rules.specs.Runs.{record-of, reads-own, holder, AnsweredBy, DayPair}
+use Rattle.rules.specs.History.{Permissive}
+use Rattle.daylog.specs.Walked.{layout-number}
+use Rattle.readback.specs.declared.entry.Entry.{Entry}
+use Rattle.readback.specs.Told.{entry-read}
+use Rattle.machine.specs.declared.books.Answer.{Answer}
+use Rattle.machine.specs.View.{view}
+use Rattle.machine.specs.Promises.{read-outcome, commit-outcome, order-outcome, close-outcome, LeavesLog, LeavesTable, LeavesBuffer}
+use Rattle.theorems.specs.Calling.{Held, as-it-stands, Known, Run}
+
+-- ---- read-back
+
+pub record ReadsBack (k : Known) : Type 0 where
+  -- the layout's answer for the log as it stands is 0
+  pub laid-out : (r : ℕ) → r ≡ layout-number yard (as-it-stands (k .held)) → r ≡ granted
+  -- its records are exactly the events of the calls since the opening or the last close, and the books count them
+  pub events-back : let log = as-it-stands (k .held) in day-of log (records-in log) ≡ k .day
+  pub counted : k .held .books .records ≡ length (k .day)
+  -- so the reader's answer for each of these records is 0 and the event of its call
+  pub read-one : (newer earlier : List Record) (e : Record) → k .day ≡ newer ++ (e ∷ earlier) → (r : Entry)
+      → r ≡ entry-read yard (as-it-stands (k .held)) (length earlier + 1) → r ≡ record { number = granted; found = e }
+  -- a granted close leaves the log as it stood in the front of the lent log
+  pub closes : (r : Answer) (log : List ℕ) → LeavesLog (k .held .books .records) (k .held .log) (close-outcome (k .held .books) (k .held .log)) r log
+      → r .number ≡ granted → part 0 (record-bytes * k .held .books .records + record-bytes) log ≡ as-it-stands (k .held)
+
+-- ---- orders
+
+pub record GivesOrders (k : Known) : Type 0 where
+  -- an order that is given, as the lent numbers have it, gets 0 from the checker
+  pub accepted : (h : ℕ) (r : Answer) (numbers : List ℕ) → LeavesBuffer (k .held .numbers) (order-outcome (k .held .books) h (k .held .numbers)) r numbers
+      → r .number ≡ granted → (x : ℕ) → x ≡ checked yard (k .opening) (as-it-stands (k .held)) (holder (k .day) h) (take (r .answer) numbers) → x ≡ granted
+  -- and one is given for every handle that is not stale
+  pub given : (h : ℕ) (r : Answer) (numbers : List ℕ) → LeavesBuffer (k .held .numbers) (order-outcome (k .held .books) h (k .held .numbers)) r numbers
+      → is-stale yard (view (k .held .books)) h ≡ false → r .number ≡ granted
+
+-- ---- Conflict
+
+-- the log with one record more
+abbrev pub log-with : Known → Record → List ℕ
+log-with k r = standing (r ∷ k .day)
+
+-- a call of a handle answers Conflict exactly when, were it granted with the record r, ..
+pub record ConflictExactly (k : Known) (h : ℕ) (r : Record) (number : ℕ) : Type 0 where
+  -- .. the pairs of the log with the record would contain a cycle
+  pub by-cycle : (number ≡ conflict) ↔ Cycle (DayPair yard (events (r ∷ k .day)) (holder (k .day) h))
+  -- .. the checker would answer 12 for every list
+  pub by-lists : (number ≡ conflict) ↔ ((list : List ℕ) (x : ℕ) → x ≡ checked yard (k .opening) (log-with k r) (holder (k .day) h) list → x ≡ no-order)
+
+pub record MeetsConflict (k : Known) : Type 0 where
+  -- a judged read that meets none of 1 to 8: the transaction has not written the cell
+  pub at-read : (h c : ℕ) (r : Answer) (log : List ℕ)
+      → LeavesLog (k .held .books .records) (k .held .log) (read-outcome (k .held .books) h c (k .held .table) (k .held .drafts) (k .held .log)) r log
+      → (r .number ≡ granted) ⊎ (r .number ≡ conflict) → reads-own (k .day) h c ≡ false
+      → ConflictExactly k h (record-of judged-read-kind h c (cell-of (k .held .table) c)) (r .number)
+  -- a commit that meets none of 1 to 8
+  pub at-commit : (h : ℕ) (r : Answer) (table log : List ℕ)
+      → LeavesTable (k .held .books .records) (k .held .log) (commit-outcome (k .held .books) h (k .held .table) (k .held .drafts) (k .held .log)) r table log
+      → (r .number ≡ granted) ⊎ (r .number ≡ conflict) → ConflictExactly k h (record-of commit-kind h 0 no-value) (r .number)
+
+-- ---- of every run
+
+pub record OfEveryRun : Type 0 where
+  pub reads-back : (k : Known) → Run k → ReadsBack k
+  -- a handle that is not stale names the transaction of the begin or post that answered it
+  pub handles : (k : Known) → Run k → (h : ℕ) → is-stale yard (view (k .held .books)) h ≡ false → AnsweredBy (k .day) h
+  pub orders : (k : Known) → Run k → GivesOrders k
+  pub conflicts : (k : Known) → Run k → MeetsConflict k
+  -- conflict local opacity and permissiveness, as source document 000 has them
+  pub permissive : (k : Known) → Run k → Permissive (k .opening) (k .day)
