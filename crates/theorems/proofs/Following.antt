@@ -1,140 +1,46 @@
 -- A run of the machine's calls is a run of the rules: what the caller knows stands for a machine of the rules whose day the lent log holds, and every
 -- call keeps that. Rests on what each call leaves of all that is lent (machine), on the log that joins the day, and on what every call of the rules
 -- keeps. Assumes nothing.
-use Prim.Native.Nat.{ℕ, _≤_}
+use Prim.Native.Nat.{ℕ}
 use mathlib.Core.Path.{_≡_, refl, sym, _∙_, ap, subst}
-use mathlib.Core.Logic.{_≢_}
-use mathlib.Core.Bool.{Bool, true, cond}
-use mathlib.Core.List.{List, []}
+use mathlib.Core.Bool.{cond}
+use mathlib.Core.List.{List}
 use lib.ListN.{length}
-use lib.Dec.{eqb}
 use native.Mathlib.Omega.{arith}
-use borrow.Author.Tests.{ne-eqb}
 use Rattle.basics.specs.Bytes.{AreBytes}
 use Rattle.basics.proofs.Bytes.{splice-length}
-use Rattle.rules.specs.declared.Size.{Size}
-use Rattle.rules.specs.Sizes.{yard, order-numbers, log-bytes}
-use Rattle.rules.specs.Books.{opened}
-use Rattle.rules.specs.Numbers.{granted, conflict}
+use Rattle.rules.specs.Sizes.{yard, order-numbers}
+use Rattle.rules.specs.Numbers.{granted}
 use Rattle.rules.specs.Daylog.{commit-total, day-of}
-use Rattle.rules.specs.State.{State, Entry, nothing, adds, closes, opens, Outcome, refused, recorded, state-of, log-after, buffer-after, shown-bytes}
+use Rattle.rules.specs.State.{Outcome, state-of, log-after, buffer-after}
 use Rattle.rules.specs.Calls.{Call, Open, Begin, Write, Read, Show, Commit, GiveUp, Post, Order, Close, issued}
-use Rattle.rules.specs.Handles.{place-of}
-use Rattle.rules.specs.Steps.{turned-back, open-rule, order-rule, order-reasons, begin-of, write-of, own-read-of, granted-read-of, show-of, granted-commit-of, give-up-of, post-of, order-of, close-of}
-use Rattle.rules.specs.Run.{Machine, lends, outcome, new-day, moved-on, after-call}
-use Rattle.rules.specs.Kept.{Joined, lent-with}
-use Rattle.rules.specs.Runs.{value-taken, told, told-call, shown-behind, shown-on, Starts}
+use Rattle.rules.specs.Steps.{open-rule}
+use Rattle.rules.specs.Run.{Machine, lends, outcome, new-day, after-call}
+use Rattle.rules.specs.Kept.{Joined}
+use Rattle.rules.specs.Runs.{value-taken, told, told-call, shown-behind, shown-on}
 use Rattle.rules.proofs.Shape.{yard-within}
-use Rattle.rules.proofs.EachCall.{EachOutcome, refused-or, each-call, is-judged}
-use Rattle.rules.proofs.Judging.{order-length}
 use Rattle.rules.proofs.Joined.{log-joins-day}
-use Rattle.rules.proofs.Reasons.{refusals-change-nothing}
 use Rattle.rules.proofs.Running.{Kept, kept-new, kept-after}
 use Rattle.rules.proofs.Told.{told-right}
 use Rattle.rules.proofs.Unlent.{unlent}
-use Rattle.machine.specs.declared.books.Books.{Books}
 use Rattle.machine.specs.declared.books.Answer.{Answer}
-use Rattle.machine.specs.View.{view, books-back, answer-of}
+use Rattle.machine.specs.View.{view, answer-of}
 use Rattle.machine.specs.Promises.{read-outcome, commit-outcome, order-outcome, close-outcome, LeavesLog, LeavesTable, LeavesBuffer}
+use Rattle.machine.specs.Statements.{machine-of}
 use Rattle.machine.specs.Called.{call-of, lent-to}
 use Rattle.machine.proofs.Issuing.{Left, neither-left, write-left, post-left, read-left, commit-left, order-left, open-left}
+use Rattle.theorems.proofs.AfterCall.{moved-state, same-machine, opening-right, order-few}
 use Rattle.theorems.specs.Calling.{Held, Called, open-called, begin-called, write-called, read-called, show-called, commit-called, give-up-called, post-called, order-called, close-called, stepped-called, ShownBehind, renews, Known, known-then, Run, start, goes-on}
 
 -- the machine of the rules that a caller's knowledge stands for
-abbrev pub machine-of : Known → Machine
-machine-of k = record { state = state-of (view (k .held .books)) (k .held .table) (k .held .drafts); day = k .day; opening = k .opening }
+abbrev pub machine-known : Known → Machine
+machine-known k = machine-of (k .held .books) (k .held .table) (k .held .drafts) (k .day) (k .opening)
 
 -- it has what every call keeps, and the lent log holds its day
 pub record Follows (k : Known) : Type 0 where
-  pub kept : Kept yard (machine-of k)
-  pub joined : Joined (machine-of k) (k .held .log)
+  pub kept : Kept yard (machine-known k)
+  pub joined : Joined (machine-known k) (k .held .log)
   pub numbers : length (k .held .numbers) ≡ order-numbers yard
-
--- ---- the machine after a call
-
--- its state is that of the outcome, its day and opening are told
-moved-state : (m : Machine) (s : State) (entry : Entry) → moved-on m s entry .state ≡ s
-unfolding moved-on new-day
-moved-state m s nothing = refl
-moved-state m s (adds r) = refl
-moved-state m s (closes records total) = refl
-moved-state m s opens = refl
-
--- machines with the same state, day and opening are one
-same-machine : (a b : Machine) → a .state ≡ b .state → a .day ≡ b .day → a .opening ≡ b .opening → a ≡ b
-same-machine a b s d p =
-    ap (λ x. record { state = x; day = a .day; opening = a .opening }) s
-    ∙ ap (λ x. record { state = b .state; day = x; opening = a .opening }) d
-    ∙ ap (λ x. record { state = b .state; day = b .day; opening = x }) p
-
--- the table at the opening or the last close, told by the call and its number
-module _ (z : Size) (m : Machine) where
-  abbrev OpeningTold : Call → Outcome → Type 0
-  OpeningTold c o = o ≡ outcome z c m → after-call m o .opening ≡ cond (renews c (o .number)) (o .after .table) (m .opening)
-
-  opening-each : EachOutcome z (lends z m) (m .state) OpeningTold
-  unfolding after-call moved-on new-day refused open-rule begin-of write-of own-read-of granted-read-of show-of granted-commit-of turned-back give-up-of post-of order-of close-of recorded outcome issued
-  opening-each =
-      record {
-        on-refused = refused-told;
-        on-open = λ q. refl;
-        on-begin = λ asked q. refl;
-        on-write = λ h c value asked q. refl;
-        on-own-read = λ h c asked own q. refl;
-        on-read = λ h c asked own free q. refl;
-        on-read-back = λ h c asked own cycle q. refl;
-        on-show = λ given h c asked q. refl;
-        on-commit = λ h asked free q. refl;
-        on-commit-back = λ h asked cycle q. refl;
-        on-give-up = λ h asked q. refl;
-        on-post = λ c value asked q. refl;
-        on-order = λ h asked q. refl;
-        on-close = λ asked q. refl;
-      }
-    where
-      refused-told : (c : Call) (n : ℕ) → n ≢ granted → (is-judged c ≡ true → n ≢ conflict) → refused n (m .state) ≡ outcome z c m
-          → m .opening ≡ cond (renews c n) (m .state .table) (m .opening)
-      refused-told Open n k j q = absurd (k (ap (λ o. o .number) q))
-      refused-told Begin n k j q = refl
-      refused-told (Write h c value) n k j q = refl
-      refused-told (Read h c) n k j q = refl
-      refused-told (Show given h c) n k j q = refl
-      refused-told (Commit h) n k j q = refl
-      refused-told (GiveUp h) n k j q = refl
-      refused-told (Post c value) n k j q = refl
-      refused-told (Order h) n k j q = refl
-      refused-told Close n k j q = rw (ne-eqb n granted k)
-
-  opening-right : (c : Call) → OpeningTold c (outcome z c m)
-  unfolding outcome
-  opening-right c = each-call z (lends z m) (m .state) OpeningTold opening-each c
-
--- no number at all is at most as many as places
-none : (z : Size) → 0 ≤ order-numbers z
-none z = omega arith
-
--- an order has at most as many numbers as places, and no other call gives one
-order-few : (z : Size) (m : Machine) (c : Call) → length (outcome z c m .order) ≤ order-numbers z
-unfolding outcome refused open-rule begin-of write-of own-read-of granted-read-of show-of granted-commit-of turned-back give-up-of post-of order-of close-of recorded
-order-few z m c =
-    each-call z (lends z m) (m .state) (λ c o. length (o .order) ≤ order-numbers z)
-    (record {
-      on-refused = λ c n k j. none z;
-      on-open = none z;
-      on-begin = λ asked. none z;
-      on-write = λ h c value asked. none z;
-      on-own-read = λ h c asked own. none z;
-      on-read = λ h c asked own free. none z;
-      on-read-back = λ h c asked own cycle. none z;
-      on-show = λ given h c asked. none z;
-      on-commit = λ h asked free. none z;
-      on-commit-back = λ h asked cycle. none z;
-      on-give-up = λ h asked. none z;
-      on-post = λ c value asked. none z;
-      on-order = λ h asked. order-length z (m .state .books) (place-of h);
-      on-close = λ asked. none z;
-    })
-    c
 
 -- ---- one call
 
@@ -159,7 +65,7 @@ module _ (k : Known) (follows : Follows k) where
   held = k .held
 
   abbrev m : Machine
-  m = machine-of k
+  m = machine-known k
 
   -- what the call is issued on is lent as the machine lends it
   lent-same : (c : Call) → issued yard (lent-to (held .books) (held .log) (held .numbers)) c (m .state) ≡ outcome yard c m
@@ -203,8 +109,8 @@ module _ (k : Known) (follows : Follows k) where
           ∙ ap (λ n. cond (renews c n) (o .after .table) (m .opening)) (sym told-number)
           ∙ ap (λ s. cond (renews c number) (s .table) (m .opening)) (sym told-state)
 
-      machine-then : after-call m o ≡ machine-of next
-      machine-then = same-machine (after-call m o) (machine-of next) state-then day-then opening-then
+      machine-then : after-call m o ≡ machine-known next
+      machine-then = same-machine (after-call m o) (machine-known next) state-then day-then opening-then
 
       pub follows-then : after .log ≡ log-after (held .books .records) (o .entry) (held .log) → length (after .numbers) ≡ order-numbers yard → Follows next
       follows-then told-log right =

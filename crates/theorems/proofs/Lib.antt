@@ -1,2 +1,3 @@
+pub mod AfterCall
 pub mod Following
 pub mod Theorems

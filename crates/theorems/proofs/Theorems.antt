@@ -1,21 +1,22 @@
 -- The theorems over every run of the machine's calls, each under the statement that `specs/` gives it. Rests on the theorems of the rules and on a run
 -- that follows them (Following). Assumes nothing.
-use Prim.Native.Nat.{ℕ, zero, suc, _+_, _*_, _-_}
+use Prim.Native.Nat.{ℕ, zero, suc, _+_, _*_, _-_, _%_}
 use mathlib.Core.Path.{_≡_, refl, sym, _∙_, ap, ap₂, subst}
-use mathlib.Core.Logic.{_↔_, Iff·trans}
-use mathlib.Core.Bool.{true, false}
+use mathlib.Core.Logic.{Iff·trans}
+use mathlib.Core.Bool.{true}
 use mathlib.Core.List.{List, [], _∷_, _++_}
 use lib.ListN.{length, take, length-append}
 use lib.Dec.{leb}
 use native.Mathlib.Omega.{arith}
-use borrow.Author.Tests.{le-leb}
+use borrow.Author.Tests.{le-leb, eq-eqb}
 use Rattle.basics.specs.Bytes.{part}
+use Rattle.basics.proofs.Bools.{cond-passes}
 use Rattle.rules.specs.declared.Record.{Record}
 use Rattle.rules.specs.Sizes.{yard, order-numbers, record-bytes}
-use Rattle.rules.specs.Numbers.{granted, conflict, no-order, first-reason}
+use Rattle.rules.specs.Numbers.{granted, lent, first-reason}
 use Rattle.rules.specs.Daylog.{decode, commit-total, trailer, standing, records-in, bytes-at, day-of}
 use Rattle.rules.specs.State.{Outcome, log-after, buffer-after}
-use Rattle.rules.specs.Calls.{Read, Commit, Order, Close, issued}
+use Rattle.rules.specs.Calls.{Read, Commit, Order, Close}
 use Rattle.rules.specs.Run.{Machine, outcome}
 use Rattle.rules.specs.Checker.{checked}
 use Rattle.rules.specs.Runs.{holder, ConflictExactly as RuleExactly}
@@ -29,10 +30,11 @@ use Rattle.rules.proofs.LocalOpacity.{permissive-kept}
 use Rattle.daylog.specs.Walked.{layout-number}
 use Rattle.readback.specs.Told.{entry-read}
 use Rattle.machine.specs.declared.books.Answer.{Answer}
-use Rattle.machine.specs.View.{view, answer-of}
-use Rattle.theorems.specs.Calling.{Held, as-it-stands, Known, Run}
+use Rattle.machine.specs.Promises.{order-outcome, LeavesBuffer}
+use Rattle.checker.specs.Desk.{checked-pairs}
+use Rattle.theorems.specs.Calling.{as-it-stands, Known}
 use Rattle.theorems.specs.Statements.{ReadsBack, GivesOrders, ConflictExactly, MeetsConflict, OfEveryRun}
-use Rattle.theorems.proofs.Following.{machine-of, Follows, answer-left, log-left, numbers-left, read-all, commit-all, order-all, close-all, run-follows}
+use Rattle.theorems.proofs.Following.{machine-known, Follows, answer-left, log-left, numbers-left, read-all, commit-all, order-all, close-all, run-follows}
 
 -- a record of the day that a log's bytes hold is the one in its 16 bytes
 record-back : (log : List ℕ) (n : ℕ) (newer earlier : List Record) (e : Record) → day-of log n ≡ newer ++ (e ∷ earlier) → decode (bytes-at log (length earlier)) ≡ e
@@ -48,7 +50,7 @@ record-back log (suc n) (x ∷ newer) earlier e q = record-back log n newer earl
 
 module _ (k : Known) (follows : Follows k) where
   abbrev m : Machine
-  m = machine-of k
+  m = machine-known k
 
   -- the log as it stands is that of the day
   stands-for : as-it-stands (k .held) ≡ standing (k .day)
@@ -94,28 +96,39 @@ module _ (k : Known) (follows : Follows k) where
         events-back = rw stands-for (back .1);
         counted = follows .kept .mirror .counted;
         read-one = λ newer earlier e q r p. p ∙ read-back newer earlier e q;
-        closes = λ r log left zero.
+        closes = λ r log left on.
             let o = outcome yard Close m in
             let all = close-all k follows left in
-            let granted-close : o .number ≡ granted = sym (ap (λ a. a .number) (answer-left k follows Close r _ _ _ _ all)) ∙ zero in
+            let granted-close : o .number ≡ granted = sym (ap (λ a. a .number) (answer-left k follows Close r _ _ _ _ all)) ∙ on in
             rw (log-left k follows Close r _ _ _ _ all, stands-for) (closed-stands granted-close);
       }
 
+  -- what an order call leaves in the front of the lent numbers is accepted
+  order-accepted : (h : ℕ) (r : Answer) (numbers : List ℕ) → LeavesBuffer (k .held .numbers) (order-outcome (k .held .books) h (k .held .numbers)) r numbers
+      → r .number ≡ granted → checked yard (k .opening) (as-it-stands (k .held)) (holder (k .day) h) (take (r .answer) numbers) ≡ granted
+  order-accepted h r numbers left on =
+      let all = order-all k follows h left in
+      let answers = answer-left k follows (Order h) r _ _ _ _ all in
+      let o = outcome yard (Order h) m in
+      let taken : take (r .answer) numbers ≡ take (o .answer) (buffer-after (o .order) (k .held .numbers)) =
+      ap₂ take (ap (λ a. a .answer) answers) (numbers-left k follows (Order h) r _ _ _ _ all) in
+      ap (λ log. checked yard (k .opening) log (holder (k .day) h) (take (r .answer) numbers)) stands-for
+      ∙ ap (checked yard (k .opening) (standing (k .day)) (holder (k .day) h)) taken
+      ∙ orders-given yard m yard-within (follows .kept) .accepted h (k .held .numbers) (follows .numbers) (sym (ap (λ a. a .number) answers) ∙ on)
+
   gives-orders : GivesOrders k
+  unfolding checked-pairs
   gives-orders =
-      let orders = orders-given yard m yard-within (follows .kept) in
       record {
-        accepted = λ h r numbers left zero x q.
-            let all = order-all k follows h left in
-            let answers = answer-left k follows (Order h) r _ _ _ _ all in
-            let o = outcome yard (Order h) m in
-            let taken : take (r .answer) numbers ≡ take (o .answer) (buffer-after (o .order) (k .held .numbers)) =
-            ap₂ take (ap (λ a. a .answer) answers) (numbers-left k follows (Order h) r _ _ _ _ all) in
+        accepted = λ h r numbers left on x q. q ∙ order-accepted h r numbers left on;
+        accepted-in-pairs = λ h r numbers bytes left on even pairs x q.
             q
-            ∙ ap (λ log. checked yard (k .opening) log (holder (k .day) h) (take (r .answer) numbers)) stands-for
-            ∙ ap (checked yard (k .opening) (standing (k .day)) (holder (k .day) h)) taken
-            ∙ orders .accepted h (k .held .numbers) (follows .numbers) (sym (ap (λ a. a .number) answers) ∙ zero);
-        given = λ h r numbers left here. ap (λ a. a .number) (answer-left k follows (Order h) r _ _ _ _ (order-all k follows h left)) ∙ orders .given h here;
+            ∙ cond-passes _ lent (eq-eqb (length bytes % 2) 0 even)
+            ∙ ap (checked yard (k .opening) (as-it-stands (k .held)) (holder (k .day) h)) pairs
+            ∙ order-accepted h r numbers left on;
+        given = λ h r numbers left here.
+            ap (λ a. a .number) (answer-left k follows (Order h) r _ _ _ _ (order-all k follows h left))
+            ∙ orders-given yard m yard-within (follows .kept) .given h here;
       }
 
   -- Conflict by the rules is Conflict by the answers
@@ -141,8 +154,8 @@ pub of-every-run : OfEveryRun
 of-every-run =
     record {
       reads-back = λ k run. reads-back k (run-follows run);
-      handles = λ k run. handle-names yard (machine-of k) (run-follows run .kept .mirror);
+      handles = λ k run. handle-names yard (machine-known k) (run-follows run .kept .mirror);
       orders = λ k run. gives-orders k (run-follows run);
       conflicts = λ k run. meets-conflict k (run-follows run);
-      permissive = λ k run. permissive-kept yard (machine-of k) (run-follows run .kept);
+      permissive = λ k run. permissive-kept yard (machine-known k) (run-follows run .kept);
     }

@@ -1,6 +1,6 @@
 -- What is proved of every run of the machine's calls, against the checker's and the layout's own promises: the types of the theorems, to be read
 -- without their proofs. `Run` is any list of calls from an opening or a close, any number of days.
-use Prim.Native.Nat.{ℕ, _+_, _*_}
+use Prim.Native.Nat.{ℕ, _+_, _*_, _%_}
 use mathlib.Core.Path.{_≡_}
 use mathlib.Core.Logic.{_↔_, _⊎_}
 use mathlib.Core.Bool.{false}
@@ -21,10 +21,11 @@ use Rattle.rules.specs.History.{Permissive}
 use Rattle.daylog.specs.Walked.{layout-number}
 use Rattle.readback.specs.declared.entry.Entry.{Entry}
 use Rattle.readback.specs.Told.{entry-read}
+use Rattle.checker.specs.Desk.{pairs-of, checked-pairs}
 use Rattle.machine.specs.declared.books.Answer.{Answer}
 use Rattle.machine.specs.View.{view}
 use Rattle.machine.specs.Promises.{read-outcome, commit-outcome, order-outcome, close-outcome, LeavesLog, LeavesTable, LeavesBuffer}
-use Rattle.theorems.specs.Calling.{Held, as-it-stands, Known, Run}
+use Rattle.theorems.specs.Calling.{as-it-stands, Known, Run}
 
 -- ---- read-back
 
@@ -47,6 +48,11 @@ pub record GivesOrders (k : Known) : Type 0 where
   -- an order that is given, as the lent numbers have it, gets 0 from the checker
   pub accepted : (h : ℕ) (r : Answer) (numbers : List ℕ) → LeavesBuffer (k .held .numbers) (order-outcome (k .held .books) h (k .held .numbers)) r numbers
       → r .number ≡ granted → (x : ℕ) → x ≡ checked yard (k .opening) (as-it-stands (k .held)) (holder (k .day) h) (take (r .answer) numbers) → x ≡ granted
+  -- so it does from the duty desk's C entry, as little-endian pairs of bytes
+  pub accepted-in-pairs : (h : ℕ) (r : Answer) (numbers bytes : List ℕ)
+      → LeavesBuffer (k .held .numbers) (order-outcome (k .held .books) h (k .held .numbers)) r numbers → r .number ≡ granted → length bytes % 2 ≡ 0
+      → pairs-of bytes ≡ take (r .answer) numbers → (x : ℕ) → x ≡ checked-pairs yard (k .opening) (as-it-stands (k .held)) (holder (k .day) h) bytes
+      → x ≡ granted
   -- and one is given for every handle that is not stale
   pub given : (h : ℕ) (r : Answer) (numbers : List ℕ) → LeavesBuffer (k .held .numbers) (order-outcome (k .held .books) h (k .held .numbers)) r numbers
       → is-stale yard (view (k .held .books)) h ≡ false → r .number ≡ granted
