@@ -5,7 +5,7 @@ use mathlib.Core.Path.{_≡_, refl, sym, _∙_, ap, subst}
 use mathlib.Core.Logic.{_≢_, ⊎-elim}
 use mathlib.Core.Bool.{true, false, false≢true}
 use mathlib.Core.List.{List, _∷_}
-use lib.ListN.{length}
+use lib.ListN.{length, replicate}
 use native.Mathlib.Omega.{arith}
 use Rattle.basics.specs.Bytes.{AreBytes}
 use Rattle.basics.proofs.Bools.{clash, equal-or-not}
@@ -183,9 +183,12 @@ drafts-changed z b i p drafts es shape inside here others j h =
 
 -- ---- a record's fields
 
--- an unused value is in bytes
+-- zeros are bytes, and so is an unused value
+pub zeros-are-bytes : (n : ℕ) → AreBytes (replicate n 0)
+zeros-are-bytes n i = rw (getD-replicate-same {A = ℕ} n i 0) (omega arith)
+
 pub zeros-in-bytes : AreBytes no-value
-zeros-in-bytes i = rw (getD-replicate-same {A = ℕ} cell-bytes i 0) (omega arith)
+zeros-in-bytes = zeros-are-bytes cell-bytes
 
 -- a record of a place with a right turn
 pub proper-at : (z : Size) (kind i : ℕ) (p : Place) (c : ℕ) (value : List ℕ) → Within z → kind < 256 → i < z .places → p .turn < turns → c < 256

@@ -4,7 +4,7 @@ use Rattle.rules.specs.Daylog.{standing, day-of}
 use Rattle.rules.specs.Trials.{Trials}
 use Rattle.rules.specs.CaseA.{CaseALog}
 use Rattle.rules.specs.Statements.{SoundnessSays, LayoutSays, LogReadsBack, ResultsUnique, RefusalsChangeNothing, Conflicts, GivenOrders}
-use Rattle.rules.specs.Runs.{RunsReadBack, HandlesName, OrdersAccepted, ConflictsMet}
+use Rattle.rules.specs.Runs.{DaysFollow, RunsReadBack, HandlesName, OrdersAccepted, ConflictsMet}
 use Rattle.rules.specs.History.{AcceptedSays, DaysPermissive}
 use Rattle.rules.specs.Kept.{ReasonsAsked, SoundnessKept, ShownIsRecorded, LogJoinsDay, Unlent}
 use Rattle.rules.proofs.AcceptedSays
@@ -18,6 +18,7 @@ use Rattle.rules.proofs.Joined
 use Rattle.rules.proofs.Judging
 use Rattle.rules.proofs.LaidOut
 use Rattle.rules.proofs.LocalOpacity
+use Rattle.rules.proofs.NewDays
 use Rattle.rules.proofs.Reasons
 use Rattle.rules.proofs.Runs
 use Rattle.rules.proofs.Shown
@@ -82,7 +83,10 @@ log-joins-day = Joined.log-joins-day
 pub unlent : Unlent
 unlent = Unlent.unlent
 
--- of every run: the log reads back, a handle names its transaction, given orders are accepted, and Conflict comes exactly when no list would be
+-- of every run: a close begins a new day, the log reads back, a handle names its transaction, given orders are accepted, and Conflict comes exactly when no list would be
+pub days-follow : DaysFollow
+days-follow = NewDays.days-follow
+
 pub runs-read-back : RunsReadBack
 runs-read-back = Runs.runs-read-back
 

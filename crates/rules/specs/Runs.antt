@@ -20,7 +20,7 @@ use Rattle.rules.specs.Cells.{cell-of}
 use Rattle.rules.specs.Daylog.{begin-kind, judged-read-kind, own-read-kind, write-kind, commit-kind, give-up-kind, read-conflict-kind, commit-conflict-kind, post-kind, kind-starts, no-value, day-bytes, standing, records-in, day-of}
 use Rattle.rules.specs.State.{Outcome, entry-bytes, shown-bytes, buffer-after}
 use Rattle.rules.specs.Calls.{Call, Open, Begin, Write, Read, Show, Commit, GiveUp, Post, Order, Close}
-use Rattle.rules.specs.Run.{Machine, outcome, new-day, after-call, played}
+use Rattle.rules.specs.Run.{Machine, outcome, new-day, after-call, played, fresh}
 use Rattle.rules.specs.Layout.{seat, well-laid-out}
 use Rattle.rules.specs.Day.{Event, events, company-of, day-before}
 use Rattle.rules.specs.Checker.{checked}
@@ -70,6 +70,14 @@ pub record Reached (z : Size) (m : Machine) : Type 0 where
 -- what is stated of every machine that a run has come to, of any number of places and cells up to 32
 abbrev pub AfterRuns : (Size → Machine → Type 0) → Type 0
 AfterRuns P = (z : Size) (m : Machine) → Within z → Reached z m → P z m
+
+-- ---- days
+
+-- a run may start: with fresh books, with what a granted close leaves, and with what an open leaves
+pub record DaysFollow : Type 0 where
+  pub from-fresh : (z : Size) → Starts z (fresh z)
+  pub from-close : AfterRuns (λ z m. outcome z Close m .number ≡ granted → Starts z (after-call m (outcome z Close m)))
+  pub from-open : AfterRuns (λ z m. Starts z (after-call m (outcome z Open m)))
 
 -- ---- the events of the calls, told by what a caller sees
 

@@ -17,24 +17,28 @@ use Rattle.rules.specs.Numbers.{granted, lent, first-reason}
 use Rattle.rules.specs.Daylog.{decode, commit-total, trailer, standing, records-in, bytes-at, day-of}
 use Rattle.rules.specs.State.{Outcome, log-after, buffer-after}
 use Rattle.rules.specs.Calls.{Read, Commit, Order, Close}
-use Rattle.rules.specs.Run.{Machine, outcome}
+use Rattle.rules.specs.Run.{Machine, outcome, after-call}
 use Rattle.rules.specs.Checker.{checked}
-use Rattle.rules.specs.Runs.{holder, ConflictExactly as RuleExactly}
+use Rattle.rules.specs.Runs.{DayStarts, holder, ConflictExactly as RuleExactly}
 use Rattle.rules.proofs.Shape.{yard-within}
 use Rattle.rules.proofs.Joined.{log-joins-day}
 use Rattle.rules.proofs.Daylog.{length-day-of, records-in-standing}
 use Rattle.rules.proofs.Holders.{handle-names}
+use Rattle.rules.proofs.DayGrows.{zeros-are-bytes}
+use Rattle.rules.proofs.NewDays.{close-starts}
 use Rattle.rules.proofs.Told.{stands-right}
 use Rattle.rules.proofs.Runs.{orders-given, conflict-at-read, conflict-at-commit}
 use Rattle.rules.proofs.LocalOpacity.{permissive-kept}
 use Rattle.daylog.specs.Walked.{layout-number}
 use Rattle.readback.specs.Told.{entry-read}
 use Rattle.machine.specs.declared.books.Answer.{Answer}
-use Rattle.machine.specs.Promises.{order-outcome, LeavesBuffer}
+use Rattle.machine.specs.View.{view}
+use Rattle.machine.specs.Promises.{order-outcome, close-outcome, LeavesLog, LeavesBuffer}
 use Rattle.checker.specs.Desk.{checked-pairs}
-use Rattle.theorems.specs.Calling.{as-it-stands, Known}
+use Rattle.theorems.specs.Calling.{as-it-stands, with-log, close-called, Known, Lends}
 use Rattle.theorems.specs.Statements.{ReadsBack, GivesOrders, ConflictExactly, MeetsConflict, OfEveryRun}
-use Rattle.theorems.proofs.Following.{machine-known, Follows, answer-left, log-left, numbers-left, read-all, commit-all, order-all, close-all, run-follows}
+use Rattle.theorems.proofs.AfterCall.{moved-state}
+use Rattle.theorems.proofs.Following.{machine-known, Follows, called-then, answer-left, log-left, numbers-left, read-all, commit-all, order-all, close-all, run-follows}
 
 -- a record of the day that a log's bytes hold is the one in its 16 bytes
 record-back : (log : List ℕ) (n : ℕ) (newer earlier : List Record) (e : Record) → day-of log n ≡ newer ++ (e ∷ earlier) → decode (bytes-at log (length earlier)) ≡ e
@@ -103,6 +107,27 @@ module _ (k : Known) (follows : Follows k) where
             rw (log-left k follows Close r _ _ _ _ all, stands-for) (closed-stands granted-close);
       }
 
+  -- a run may start with what a granted close leaves
+  close-starts-again : (r : Answer) (log : List ℕ)
+      → LeavesLog (k .held .books .records) (k .held .log) (close-outcome (k .held .books) (k .held .log)) r log → r .number ≡ granted
+      → DayStarts (view (r .books)) × Lends (with-log (k .held) (r .books) log)
+  unfolding after-call
+  close-starts-again r log left on =
+      let o = outcome yard Close m in
+      let answers = answer-left k follows Close r _ _ _ _ (close-all k follows left) in
+      let starts = close-starts yard m (follows .kept) (sym (ap (λ a. a .number) answers) ∙ on) in
+      let v = follows .kept .valued in
+      let books : after-call m o .state .books ≡ view (r .books) = ap (λ s. s .books) (moved-state m (o .after) (o .entry)) ∙ ap (λ a. view (a .books)) (sym answers) in
+      let log-right = called-then k follows (close-called left) [] (zeros-are-bytes 0) refl .joined .whole in (
+        subst DayStarts books (starts .books),
+        record {
+          table = (v .table-length, v .table-in-bytes);
+          drafts = (v .drafts-length, v .drafts-in-bytes);
+          log = log-right;
+          numbers = follows .numbers;
+        },
+      )
+
   -- what an order call leaves in the front of the lent numbers is accepted
   order-accepted : (h : ℕ) (r : Answer) (numbers : List ℕ) → LeavesBuffer (k .held .numbers) (order-outcome (k .held .books) h (k .held .numbers)) r numbers
       → r .number ≡ granted → checked yard (k .opening) (as-it-stands (k .held)) (holder (k .day) h) (take (r .answer) numbers) ≡ granted
@@ -153,6 +178,7 @@ module _ (k : Known) (follows : Follows k) where
 pub of-every-run : OfEveryRun
 of-every-run =
     record {
+      closes = λ k run. close-starts-again k (run-follows run);
       reads-back = λ k run. reads-back k (run-follows run);
       handles = λ k run. handle-names yard (machine-known k) (run-follows run .kept .mirror);
       orders = λ k run. gives-orders k (run-follows run);

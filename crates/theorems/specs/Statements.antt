@@ -16,7 +16,7 @@ use Rattle.rules.specs.Cells.{cell-of}
 use Rattle.rules.specs.Daylog.{judged-read-kind, commit-kind, no-value, standing, records-in, day-of}
 use Rattle.rules.specs.Day.{events}
 use Rattle.rules.specs.Checker.{checked}
-use Rattle.rules.specs.Runs.{record-of, reads-own, holder, AnsweredBy, DayPair}
+use Rattle.rules.specs.Runs.{DayStarts, record-of, reads-own, holder, AnsweredBy, DayPair}
 use Rattle.rules.specs.History.{Permissive}
 use Rattle.daylog.specs.Walked.{layout-number}
 use Rattle.readback.specs.declared.entry.Entry.{Entry}
@@ -25,7 +25,7 @@ use Rattle.checker.specs.Desk.{pairs-of, checked-pairs}
 use Rattle.machine.specs.declared.books.Answer.{Answer}
 use Rattle.machine.specs.View.{view}
 use Rattle.machine.specs.Promises.{read-outcome, commit-outcome, order-outcome, close-outcome, LeavesLog, LeavesTable, LeavesBuffer}
-use Rattle.theorems.specs.Calling.{as-it-stands, Known, Run}
+use Rattle.theorems.specs.Calling.{as-it-stands, with-log, Known, Lends, Run}
 
 -- ---- read-back
 
@@ -84,6 +84,10 @@ pub record MeetsConflict (k : Known) : Type 0 where
 -- ---- of every run
 
 pub record OfEveryRun : Type 0 where
+  -- a run may start with what a granted close leaves
+  pub closes : (k : Known) → Run k → (r : Answer) (log : List ℕ)
+      → LeavesLog (k .held .books .records) (k .held .log) (close-outcome (k .held .books) (k .held .log)) r log → r .number ≡ granted
+      → DayStarts (view (r .books)) × Lends (with-log (k .held) (r .books) log)
   pub reads-back : (k : Known) → Run k → ReadsBack k
   -- a handle that is not stale names the transaction of the begin or post that answered it
   pub handles : (k : Known) → Run k → (h : ℕ) → is-stale yard (view (k .held .books)) h ≡ false → AnsweredBy (k .day) h
