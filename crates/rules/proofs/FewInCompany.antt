@@ -10,7 +10,7 @@ use lib.Dec.{eqb}
 use native.Mathlib.Omega.{arith}
 use borrow.Author.Tests.{eqb-true, eq-eqb}
 use Rattle.basics.specs.Lists.{allIn, member, distinct}
-use Rattle.basics.proofs.Bools.{split, clash, and-left, and-right, or-left}
+use Rattle.basics.proofs.Bools.{clash, and-left, and-right, or-left}
 use Rattle.basics.proofs.Lists.{all-in-at, all-in-of, member-at, distinct-few}
 use Rattle.rules.specs.declared.Record.{Record}
 use Rattle.rules.specs.Sizes.{Size}
@@ -19,7 +19,7 @@ use Rattle.rules.specs.Layout.{Seat, seat, fields-right, fits, walks}
 use Rattle.rules.specs.Day.{Event, whose, event, events, is-transaction, moment-of, sets-moment}
 use Rattle.rules.specs.Checker.{lists-company}
 use Rattle.rules.proofs.InTime.{in-company}
-use Rattle.rules.proofs.Seats.{frees-says, moved-by, seat-here, seat-other, walks-earlier, fits-live}
+use Rattle.rules.proofs.Seats.{frees-says, moved-by, seat-here, seat-other, walks-earlier, fits-uncommitted}
 use Rattle.rules.proofs.Day.{event-cases, whose-starts, whose-others}
 use Rattle.rules.proofs.LaidOut.{fields-says}
 use Rattle.rules.proofs.CompanyInTime.{sets-commits, at-moment, company-early, company-cases, company-told}
@@ -34,13 +34,6 @@ CommittedSeat k s = (s .status ≡ 2) × (s .begin ≡ k)
 sets-hold : (k : ℕ) → sets-moment k ≡ true → kind-frees k ≡ true → ⊥
 unfolding sets-moment kind-starts kind-judged-read kind-commits
 sets-hold k s f = clash s (⊎-elim (ap sets-moment) (⊎-elim (ap sets-moment) (ap sets-moment)) (frees-says k .0 f))
-
--- no record fits at a committed place
-fits-uncommitted : (earlier : List Record) (r : Record) → fits earlier r ≡ true → seat earlier (r .place) .status ≡ 2 → ⊥
-unfolding fits
-fits-uncommitted earlier r f e =
-    let s = seat earlier (r .place) in
-    split (kind-starts (r .kind)) (λ k. omega (arith, eqb-true (s .status) 0 (rw k at f))) (λ k. omega (arith, fits-live earlier r k f .0))
 
 -- after a record that frees nothing its transaction holds the place
 holds-here : (r : Record) (earlier : List Record) → (kind-frees (r .kind) ≡ true → ⊥) → seat (r ∷ earlier) (r .place) .begin ≡ whose earlier r

@@ -22,7 +22,7 @@ use Rattle.rules.specs.Layout.{Seat, moved, seat, fits, fields-right, wa
 use Rattle.rules.specs.Day.{Event, whose, event, events, latest, commit-of, committed, wrote-cell}
 use Rattle.rules.proofs.Mirror.{earliest, reads-it, Holds, Mirrors, HeldCommitted, Mirrored}
 use Rattle.rules.proofs.Sound.{Clear, held-status}
-use Rattle.rules.proofs.Seats.{walks-earlier, fits-live, moved-post, moved-commit, seat-here, seat-other}
+use Rattle.rules.proofs.Seats.{walks-earlier, fits-live, fits-uncommitted, moved-post, moved-commit, seat-here, seat-other}
 use Rattle.rules.proofs.Day.{begin-bound, whose-starts, whose-others}
 use Rattle.rules.proofs.Commits.{begins-differ, latest-none}
 use Rattle.rules.proofs.CompanyInTime.{none-yet}
@@ -189,13 +189,6 @@ module _ (z : Size) (r : Record) (day : List Record) where
 
 -- ---- one record more, as a whole
 
--- a record fits at no committed place
-fits-unsealed : (day : List Record) (r : Record) → fits day r ≡ true → seat day (r .place) .status ≡ 2 → ⊥
-unfolding fits
-fits-unsealed day r fit sealed =
-    let s = seat day (r .place) in
-    split (kind-starts (r .kind)) (λ k. let free = eqb-true (s .status) 0 (rw k at fit) in omega arith) (λ k. omega (arith, fits-live day r k fit .0))
-
 -- a record that commits seals the seat of its place for the transaction whose it is
 commits-seat : (day : List Record) (r : Record) → kind-commits (r .kind) ≡ true → let s = moved (suc (length day)) r (seat day (r .place)) in
     (s .status ≡ 2) × (s .begin ≡ whose day r)
@@ -231,7 +224,7 @@ module _ (z : Size) (b after : Books) (r : Record) (day : List Record) (m : Mirr
       elsewhere : x .at ≡ r .place → ⊥
       elsewhere e =
           let status : place-at b (x .at) .status ≡ 2 = eqb-true (place-at b (x .at) .status) 2 (x .done) in
-          fits-unsealed day r fit (m .places (r .place) there .status ∙ ap (λ k. place-at b k .status) (sym e) ∙ status)
+          fits-uncommitted day r fit (m .places (r .place) there .status ∙ ap (λ k. place-at b k .status) (sym e) ∙ status)
 
   -- and who commits with the record is held at its place
   kept-here : kind-commits (r .kind) ≡ true → HeldCommitted z after (whose day r)
