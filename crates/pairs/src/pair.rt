@@ -1,42 +1,12 @@
-// The four kinds of pair: whether K stands before M.
+// Whether K stands before M: real time, and the kinds of pair that a cell makes.
 ghost use mathlib.Core.Path.{_≡_};
 ghost use Prim.Native.Nat.{_≤_};
 ghost use Rattle.rules.specs.Sizes.{Within, width};
-ghost use Rattle.rules.specs.Judging.{real-time, write-write, write-read, read-write, precedes};
-ghost use Rattle.pairs.specs.Cells.{read-after-of, read-before-of};
-use crate::marks;
+ghost use Rattle.rules.specs.Judging.{real-time, precedes};
+ghost use Rattle.pairs.specs.Cells.{comes-first};
+ghost use Rattle.pairs.specs.Commits.{commit-or};
 use rules::Place;
 use rules::Size;
-
-// A written cell whose last judged read comes after the commit.
-fn read_after(written: [bool; 32], commit: u16, last: [u16; 32], cells: usize) -> bool
-    requires { ⌜ cells ≤ width ⌝ }
-    ensures { λ r. ⌜ r ≡ read-after-of written commit last cells ⌝ }
-{
-    let mut c = 0;
-    while c < cells {
-        if written[c] && commit < last[c] {
-            return true;
-        }
-        c += 1;
-    }
-    false
-}
-
-// A written cell whose first judged read comes before the commit.
-fn read_before(first: [u16; 32], written: [bool; 32], commit: u16, cells: usize) -> bool
-    requires { ⌜ cells ≤ width ⌝ }
-    ensures { λ r. ⌜ r ≡ read-before-of first written commit cells ⌝ }
-{
-    let mut c = 0;
-    while c < cells {
-        if written[c] && 1 <= first[c] && first[c] < commit {
-            return true;
-        }
-        c += 1;
-    }
-    false
-}
 
 // Real time: K is committed and its commit record is below M's begin record.
 pub fn is_real_time(k: Place, m: Place) -> bool
@@ -45,52 +15,57 @@ pub fn is_real_time(k: Place, m: Place) -> bool
     k.status == 2 && k.commit < m.begin
 }
 
-// Write then write: both committed, a cell in common, K's commit first.
-pub fn is_write_write(k: Place, m: Place, z: Size) -> bool
-    requires { ⌜ Within z ⌝ }
-    ensures { λ r. ⌜ r ≡ write-write z k m ⌝ }
+// The commit record of a committed one, and the number given for any other.
+fn commit_or(p: Place, other: u16) -> u16
+    ensures { λ r. ⌜ r ≡ commit-or p other ⌝ }
 {
-    if k.status != 2 || m.status != 2 || m.commit <= k.commit {
-        return false;
-    }
-    let earlier = k.written;
-    let later = m.written;
-    marks::overlap(earlier, later, z.cells)
+    if p.status == 2 { p.commit } else { other }
 }
 
-// Write then read: K committed a cell before a judged read of it by M.
-pub fn is_write_read(k: Place, m: Place, z: Size) -> bool
-    requires { ⌜ Within z ⌝ }
-    ensures { λ r. ⌜ r ≡ write-read z k m ⌝ }
+// Whether K comes first in some cell. K is told by the cells it wrote, its commit and its first reads, M by the cells it wrote, its commit and its
+// last reads. The pass has no exit and no branch, so that it is compiled to instructions that look at many cells at once.
+fn comes_first(
+    earlier: [bool; 32],
+    commit: u16,
+    first: [u16; 32],
+    later: [bool; 32],
+    sealed: u16,
+    last: [u16; 32],
+    cells: usize,
+) -> bool
+    requires { ⌜ cells ≤ width ⌝ }
+    ensures { λ r. ⌜ r ≡ comes-first earlier commit first later sealed last cells ⌝ }
 {
-    if k.status != 2 {
-        return false;
+    let mut common = false;
+    let mut read_after = false;
+    let mut read_before = false;
+    let mut c = 0;
+    while c < cells {
+        common |= earlier[c] & later[c];
+        read_after |= earlier[c] & (commit < last[c]);
+        read_before |= later[c] & ((1 <= first[c]) & (first[c] < sealed));
+        c += 1;
     }
-    let written = k.written;
-    let last = m.last;
-    read_after(written, k.commit, last, z.cells)
+    ((commit < sealed) & common) | (read_after | read_before)
 }
 
-// Read then write: K made a judged read of a cell before M committed that cell.
-pub fn is_read_write(k: Place, m: Place, z: Size) -> bool
-    requires { ⌜ Within z ⌝ }
-    ensures { λ r. ⌜ r ≡ read-write z k m ⌝ }
-{
-    if m.status != 2 {
-        return false;
-    }
-    let first = k.first;
-    let written = m.written;
-    read_before(first, written, m.commit, z.cells)
-}
-
-// One of the four.
+// One of the four. What one that is not committed wrote counts for nothing: as K its commit is 65,535, after which no record comes, and as M 0.
+// 32 cells are asked for by that number, so that the pass over them has a fixed length and is laid out without a loop.
 pub fn is_before(k: Place, m: Place, z: Size) -> bool
     requires { ⌜ Within z ⌝ }
     ensures { λ r. ⌜ r ≡ precedes z k m ⌝ }
 {
-    is_real_time(k, m)
-        || is_write_write(k, m, z)
-        || is_write_read(k, m, z)
-        || is_read_write(k, m, z)
+    if is_real_time(k, m) {
+        return true;
+    }
+    let earlier = k.written;
+    let commit = commit_or(k, 65535);
+    let first = k.first;
+    let later = m.written;
+    let sealed = commit_or(m, 0);
+    let last = m.last;
+    if z.cells == 32 {
+        return comes_first(earlier, commit, first, later, sealed, last, 32);
+    }
+    comes_first(earlier, commit, first, later, sealed, last, z.cells)
 }
