@@ -14,21 +14,20 @@ pub fn are_cells_clear(p: Place, z: Size) -> bool
     let written = p.written;
     let first = p.first;
     let last = p.last;
+    let mut clear = true;
     let mut c = 0;
     while c < z.cells {
-        if written[c] || first[c] != 0 || last[c] != 0 {
-            return false;
-        }
+        clear = clear & (!written[c] & ((first[c] == 0) & (last[c] == 0)));
         c += 1;
     }
-    true
+    clear
 }
 
 // First and last read of a cell: both 0, or begin ≤ first ≤ last ≤ records.
 fn is_read_sound(records: u16, begin: u16, first: u16, last: u16) -> bool
     ensures { λ r. ⌜ r ≡ read-sound records begin first last ⌝ }
 {
-    (first == 0 && last == 0) || (begin <= first && first <= last && last <= records)
+    ((first == 0) & (last == 0)) | ((begin <= first) & ((first <= last) & (last <= records)))
 }
 
 // The reads of every cell.
@@ -38,12 +37,11 @@ pub fn are_reads_sound(p: Place, records: u16, z: Size) -> bool
 {
     let first = p.first;
     let last = p.last;
+    let mut sound = true;
     let mut c = 0;
     while c < z.cells {
-        if !is_read_sound(records, p.begin, first[c], last[c]) {
-            return false;
-        }
+        sound = sound & is_read_sound(records, p.begin, first[c], last[c]);
         c += 1;
     }
-    true
+    sound
 }

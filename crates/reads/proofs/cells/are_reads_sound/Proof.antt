@@ -1,21 +1,24 @@
--- `reads::cells::are_reads_sound` meets its contract. The loop's invariant: the reads of all cells passed are sound.
+-- `reads::cells::are_reads_sound` meets its contract. The loop's invariant: the flag says whether the reads of all cells passed are sound.
 -- Rests on the contract of `is_read_sound`.
-use Prim.Native.Nat.{_-_}
+use Prim.Native.Nat.{_≤_, _-_}
+use mathlib.Core.Path.{_≡_, sym, _∙_, ap, ap₂}
+use mathlib.Core.Bool.{_&&_}
 use native.Mathlib.Omega.{arith}
 use borrow.Author.Needs.{needs}
+use Rattle.basics.specs.Below.{allBelow}
+use Rattle.basics.proofs.Below.{all-none, all-more}
 use Rattle.rules.specs.Sound.{reads-sound}
-use Rattle.basics.proofs.Tested.{Passed, none-passed, answer-passes, answer-fails, all-passed}
 use Rattle.reads.proofs.cells.are_reads_sound.Statement.{statement}
 use Rattle.reads.proofs.cells.are_reads_sound.Tie as tie
 
 abbrev Inv-loop : tie.InvT-loop
-Inv-loop p records z first last c₀ c = Passed (reads-sound records p) (z .cells) c
+Inv-loop p records z first last sound₀ c₀ sound c = (c ≤ z .cells) × (sound ≡ allBelow (reads-sound records p) c)
 
 abbrev μ-loop : tie.MeasureT-loop
-μ-loop p records z first last c₀ c = z .cells - c
+μ-loop p records z first last sound₀ c₀ sound c = z .cells - c
 
 loop-holds : tie.Need-loop-holds Inv-loop μ-loop
-loop-holds c = let s = c .before .before .args in none-passed (reads-sound (s .records) (s .p)) (s .z .cells)
+loop-holds c = let s = c .before .before .args in (omega arith, sym (all-none (reads-sound (s .records) (s .p))))
 
 mul-is-read-sound : tie.Need-mul-is-read-sound Inv-loop μ-loop
 mul-is-read-sound c = omega arith
@@ -32,13 +35,6 @@ array-read-is-read-sound-2 c = omega arith
 is-read-sound-requires : tie.Need-is-read-sound-requires Inv-loop μ-loop
 is-read-sound-requires c κs = search needs
 
-returns : tie.Need-returns Inv-loop μ-loop
-unfolding reads-sound
-returns c =
-    let s = c .before .before .before .before .before .before .before .args in
-    let answer = c .before .is-read-sound in
-    answer-fails (reads-sound (s .records) (s .p)) (s .z .cells) (c .before .before .before .before .loop .c) (c .before .before .if1 .taken) (answer .result) (answer .ensures) (c .if2 .taken)
-
 add-c : tie.Need-add-c Inv-loop μ-loop
 add-c c = omega arith
 
@@ -48,16 +44,16 @@ loop-less c = omega arith
 loop-again : tie.Need-loop-again Inv-loop μ-loop
 unfolding reads-sound
 loop-again c =
-    let s = c .before .before .before .before .before .before .before .args in
-    let loop = c .before .before .before .before .loop in
-    let answer = c .before .is-read-sound in
-    answer-passes (reads-sound (s .records) (s .p)) (s .z .cells) (loop .c) (c .before .before .if1 .taken) (loop .inv) (answer .result) (answer .ensures) (c .if2 .left)
+    let s = c .before .before .before .before .before .before .args in
+    let loop = c .before .before .before .loop in
+    (omega arith, ap₂ _&&_ (loop .inv .1) (c .is-read-sound .ensures) ∙ sym (all-more (reads-sound (s .records) (s .p)) (loop .c)))
 
-returns-2 : tie.Need-returns-2 Inv-loop μ-loop
-returns-2 c =
+returns : tie.Need-returns Inv-loop μ-loop
+returns c =
     let s = c .before .before .before .before .before .args in
     let loop = c .before .before .loop in
-    all-passed (reads-sound (s .records) (s .p)) (s .z .cells) (loop .c) (c .if1 .left) (loop .inv)
+    let all : loop .c ≡ s .z .cells = omega arith in
+    loop .inv .1 ∙ ap (allBelow (reads-sound (s .records) (s .p))) all
 
 pub are-reads-sound-spec : {M : Type 1} → statement M
 are-reads-sound-spec =
@@ -71,8 +67,7 @@ are-reads-sound-spec =
     mul-is-read-sound-2
     array-read-is-read-sound-2
     is-read-sound-requires
-    returns
     add-c
     loop-less
     loop-again
-    returns-2)
+    returns)
