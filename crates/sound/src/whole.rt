@@ -7,17 +7,22 @@ use crate::clauses;
 use keys::apart;
 use rules::Place;
 use rules::Size;
-use survey::search;
+use survey::columns;
 
 // Whether the books of that record count and those places are sound.
 pub fn are_sound(places: [Place; 32], records: u16, z: Size) -> bool
     requires { ⌜ Within z ⌝ }
     ensures { λ r. ⌜ r ≡ sound z (books-of records places) ⌝ }
 {
-    if 4000 < records as u32 + search::live_count_of(places, z) {
+    let seen = columns::columns_of(places, z);
+    if 4000 < records as u32 + seen.live {
         return false;
     }
+    let held = seen.held;
+    let begins = seen.begins;
+    let committed = seen.committed;
+    let commits = seen.commits;
     clauses::each_sound(places, records, z)
-        && apart::begins_differ(places, z)
-        && apart::commits_differ(places, z)
+        && apart::are_apart(held, begins, z.places)
+        && apart::are_apart(committed, commits, z.places)
 }

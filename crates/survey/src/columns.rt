@@ -1,45 +1,58 @@
 // What every place has of one kind, as an array: the columns of the books.
 ghost use mathlib.Core.Path.{_≡_};
-ghost use mathlib.Core.Bool.{false};
 ghost use Rattle.basics.specs.Below.{filledBelow};
 ghost use Rattle.rules.specs.Sizes.{Within, width};
-ghost use Rattle.rules.specs.Books.{of-places, place-at, is-committed, held-status, is-held};
+ghost use Rattle.rules.specs.Books.{of-places, place-at, held-status};
+ghost use Rattle.survey.specs.Columned.{Columned};
 use rules::Place;
 use rules::Size;
+
+// How many are live; by place, who is held and who is committed, and the begin and commit records.
+// Twice as wide as the places are many at most: behind every place stand 32 more, held or free or not there.
+pub struct Columns {
+    pub live: u32,
+    pub held: [bool; 64],
+    pub committed: [bool; 64],
+    pub begins: [u16; 64],
+    pub commits: [u16; 64],
+}
 
 // A held place is live or committed.
 fn is_held(status: u8) -> bool
     ensures { λ r. ⌜ r ≡ held-status status ⌝ }
 {
-    status == 1 || status == 2
+    (status == 1) | (status == 2)
 }
 
-// Which places are held.
-pub fn held_of(places: [Place; 32], z: Size) -> [bool; 32]
+// All columns, in one pass.
+pub fn columns_of(places: [Place; 32], z: Size) -> Columns
     requires { ⌜ Within z ⌝ }
-    ensures { λ r. ⌜ r ≡ filledBelow (λ i. is-held (place-at (of-places places) i)) false (z .places) width ⌝ }
+    ensures { λ r. ⌜ Columned z (of-places places) r ⌝ }
 {
-    let mut held = [false; 32];
+    let mut live: u32 = 0;
+    let mut held = [false; 64];
+    let mut committed = [false; 64];
+    let mut begins: [u16; 64] = [0; 64];
+    let mut commits: [u16; 64] = [0; 64];
     let mut i = 0;
     while i < z.places {
-        held[i] = is_held(places[i].status);
+        let p = places[i];
+        held[i] = is_held(p.status);
+        committed[i] = p.status == 2;
+        begins[i] = p.begin;
+        commits[i] = p.commit;
+        if p.status == 1 {
+            live += 1;
+        }
         i += 1;
     }
-    held
-}
-
-// Which places are committed.
-pub fn committed_of(places: [Place; 32], z: Size) -> [bool; 32]
-    requires { ⌜ Within z ⌝ }
-    ensures { λ r. ⌜ r ≡ filledBelow (λ i. is-committed (place-at (of-places places) i)) false (z .places) width ⌝ }
-{
-    let mut committed = [false; 32];
-    let mut i = 0;
-    while i < z.places {
-        committed[i] = places[i].status == 2;
-        i += 1;
+    Columns {
+        live,
+        held,
+        committed,
+        begins,
+        commits,
     }
-    committed
 }
 
 // The begin records.
@@ -54,18 +67,4 @@ pub fn begins_of(places: [Place; 32], z: Size) -> [u16; 32]
         i += 1;
     }
     begins
-}
-
-// The commit records.
-pub fn commits_of(places: [Place; 32], z: Size) -> [u16; 32]
-    requires { ⌜ Within z ⌝ }
-    ensures { λ r. ⌜ r ≡ filledBelow (λ i. place-at (of-places places) i .commit) 0 (z .places) width ⌝ }
-{
-    let mut commits: [u16; 32] = [0; 32];
-    let mut i = 0;
-    while i < z.places {
-        commits[i] = places[i].commit;
-        i += 1;
-    }
-    commits
 }

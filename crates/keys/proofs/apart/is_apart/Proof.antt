@@ -1,102 +1,89 @@
--- `keys::apart::is_apart` meets its contract. The loop's invariant: place i has the key of none of those passed. Assumes nothing.
-use Prim.Native.Nat.{ℕ, _-_}
-use mathlib.Core.Path.{_≡_, sym}
-use mathlib.Core.Logic.{⊎-elim}
+-- `keys::apart::is_apart` meets its contract. The loop's invariant: the flag says whether the places passed have other keys than place i. Assumes nothing.
+use Prim.Native.Nat.{ℕ, _+_, _≤_, _-_}
+use mathlib.Core.Path.{_≡_, sym, _∙_, ap, ap₂}
 use mathlib.Core.Bool.{Bool, true, false, not, _&&_}
 use mathlib.Core.List.{List}
 use lib.ListN.{getD}
+use denote.Ref.{now}
 use lib.Dec.{eqb}
 use native.Mathlib.Omega.{arith}
 use borrow.Author.Tests.{not-true, not-false}
-use Rattle.basics.proofs.Below.{all-of}
+use Rattle.basics.specs.Below.{allBelow}
+use Rattle.basics.proofs.Below.{all-none, all-more, all-of}
+use Rattle.rules.specs.Sizes.{width}
 use Rattle.keys.specs.Apart.{apart}
-use Rattle.basics.proofs.Tested.{Passed, none-passed, one-more-passes, one-fails, all-passed}
 use Rattle.keys.proofs.apart.is_apart.Statement.{statement}
 use Rattle.keys.proofs.apart.is_apart.Tie as tie
 
--- i and j do not both pass with the same key
+-- i and the one that is k behind the next do not both pass with the same key
 abbrev unlike : List Bool → List ℕ → ℕ → ℕ → Bool
-unlike passes keys i j = not (getD passes i false && (getD passes j false && eqb (getD keys i 0) (getD keys j 0)))
+unlike passes keys i k = not (getD passes i false && (getD passes (i + 1 + k) false && eqb (getD keys i 0) (getD keys (i + 1 + k) 0)))
 
--- by the outcomes of the three tests
-module _ (p q k : Bool) where
-  first-fails : p ≡ false → not (p && (q && k)) ≡ true
-  first-fails e = rw e
-
-  second-fails : p ≡ true → q ≡ false → not (p && (q && k)) ≡ true
-  second-fails e f = rw (e, f)
-
-  third-fails : p ≡ true → q ≡ true → k ≡ false → not (p && (q && k)) ≡ true
-  third-fails e f g = rw (e, f, g)
-
-  none-fails : p ≡ true → q ≡ true → k ≡ true → not (p && (q && k)) ≡ false
-  none-fails e f g = rw (e, f, g)
+-- where i passes, the other one decides
+second-asked : (p q : Bool) → p ≡ true → not q ≡ not (p && q)
+second-asked p q e = rw e
 
 abbrev Inv-loop : tie.InvT-loop
-Inv-loop i passes keys j₀ j = Passed (unlike passes keys i) i j
+Inv-loop passes keys i key from apart₀ k₀ apart k = (k ≤ width) × (apart ≡ allBelow (unlike passes keys i) k)
 
 abbrev μ-loop : tie.MeasureT-loop
-μ-loop i passes keys j₀ j = i - j
+μ-loop passes keys i key from apart₀ k₀ apart k = width - k
 
-array-read-if1 : tie.Need-array-read-if1 Inv-loop μ-loop
-array-read-if1 c = omega arith
+element-copy-out-if1 : tie.Need-element-copy-out-if1 Inv-loop μ-loop
+element-copy-out-if1 c = omega arith
 
 returns : tie.Need-returns Inv-loop μ-loop
 unfolding apart
 returns c =
-    let s = c .before .args in
-    sym (all-of (unlike (s .t1) (s .t2) (s .i)) (s .i) λ j h. first-fails (getD (s .t1) (s .i) false) (getD (s .t1) j false) (eqb (getD (s .t2) (s .i) 0) (getD (s .t2) j 0)) (not-true (getD (s .t1) (s .i) false) (c .if1 .taken)))
+    let s = c .before .before .args in
+    let out = not-true (getD (now (s .passes)) (s .i) false) (c .if1 .taken) in
+    sym (all-of (unlike (now (s .passes)) (now (s .keys)) (s .i)) width (λ k h. rw out))
+
+mul-key : tie.Need-mul-key Inv-loop μ-loop
+mul-key c = omega arith
+
+element-copy-out-key : tie.Need-element-copy-out-key Inv-loop μ-loop
+element-copy-out-key c = omega arith
+
+add-from : tie.Need-add-from Inv-loop μ-loop
+add-from c = omega arith
 
 loop-holds : tie.Need-loop-holds Inv-loop μ-loop
-loop-holds c = let s = c .before .args in none-passed (unlike (s .t1) (s .t2) (s .i)) (s .i)
-
-array-read-if2 : tie.Need-array-read-if2 Inv-loop μ-loop
-array-read-if2 c = omega arith
-
-mul-if3 : tie.Need-mul-if3 Inv-loop μ-loop
-mul-if3 c = omega arith
-
-array-read-if3 : tie.Need-array-read-if3 Inv-loop μ-loop
-array-read-if3 c = omega arith
-
-mul-if3-2 : tie.Need-mul-if3-2 Inv-loop μ-loop
-mul-if3-2 c = omega arith
-
-array-read-if3-2 : tie.Need-array-read-if3-2 Inv-loop μ-loop
-array-read-if3-2 c = omega arith
-
-returns-2 : tie.Need-returns-2 Inv-loop μ-loop
-unfolding apart
-returns-2 c =
-    let s = c .before .before .before .before .before .args in
-    let j = c .before .before .before .loop .j in
-    let here = getD (s .t1) (s .i) false in
-    one-fails (unlike (s .t1) (s .t2) (s .i)) (s .i) j (c .before .before .loop-test .taken)
-    (none-fails here (getD (s .t1) j false) (eqb (getD (s .t2) (s .i) 0) (getD (s .t2) j 0)) (not-false here (c .before .before .before .before .if1 .left)) (c .before .if2 .taken) (c .if3 .taken))
+loop-holds c = let s = c .before .before .before .args in (omega arith, sym (all-none (unlike (now (s .passes)) (now (s .keys)) (s .i))))
 
 add-j : tie.Need-add-j Inv-loop μ-loop
 add-j c = omega arith
+
+element-copy-out-apart : tie.Need-element-copy-out-apart Inv-loop μ-loop
+element-copy-out-apart c = omega arith
+
+mul-apart : tie.Need-mul-apart Inv-loop μ-loop
+mul-apart c = omega arith
+
+element-copy-out-apart-2 : tie.Need-element-copy-out-apart-2 Inv-loop μ-loop
+element-copy-out-apart-2 c = omega arith
+
+add-k : tie.Need-add-k Inv-loop μ-loop
+add-k c = omega arith
 
 loop-less : tie.Need-loop-less Inv-loop μ-loop
 loop-less c = omega arith
 
 loop-again : tie.Need-loop-again Inv-loop μ-loop
 loop-again c =
-    let s = c .before .before .before .before .args in
-    let loop = c .before .before .loop in
-    let here = getD (s .t1) (s .i) false in
-    let there = getD (s .t1) (loop .j) false in
-    let alike = eqb (getD (s .t2) (s .i) 0) (getD (s .t2) (loop .j) 0) in
-    let passes : here ≡ true = not-false here (c .before .before .before .if1 .left) in
-    one-more-passes (unlike (s .t1) (s .t2) (s .i)) (s .i) (loop .j) (c .before .loop-test .taken) (loop .inv)
-    (⊎-elim (λ w. third-fails here there alike passes (w .0 .taken) (w .1 .left)) (λ w. second-fails here there alike passes (w .left)) (c .if2 .came))
+    let s = c .before .before .before .before .before .before .before .args in
+    let loop = c .before .before .before .loop in
+    let here = getD (now (s .passes)) (s .i) false in
+    let passes = not-false here (c .before .before .before .before .before .if1 .left) in
+    (omega arith, ap₂ _&&_ (loop .inv .1) (second-asked here _ passes) ∙ sym (all-more (unlike (now (s .passes)) (now (s .keys)) (s .i)) (loop .k)))
 
-returns-3 : tie.Need-returns-3 Inv-loop μ-loop
+returns-2 : tie.Need-returns-2 Inv-loop μ-loop
 unfolding apart
-returns-3 c =
-    let s = c .before .before .before .args in
+returns-2 c =
+    let s = c .before .before .before .before .before .args in
     let loop = c .before .loop in
-    all-passed (unlike (s .t1) (s .t2) (s .i)) (s .i) (loop .j) (c .loop-test .left) (loop .inv)
+    let all : loop .k ≡ width = omega arith in
+    loop .inv .1 ∙ ap (allBelow (unlike (now (s .passes)) (now (s .keys)) (s .i))) all
 
 pub is-apart-spec : {M : Type 1} → statement M
 is-apart-spec =
@@ -104,16 +91,17 @@ is-apart-spec =
     (tie.spec
     Inv-loop
     μ-loop
-    array-read-if1
+    element-copy-out-if1
     returns
+    mul-key
+    element-copy-out-key
+    add-from
     loop-holds
-    array-read-if2
-    mul-if3
-    array-read-if3
-    mul-if3-2
-    array-read-if3-2
-    returns-2
     add-j
+    element-copy-out-apart
+    mul-apart
+    element-copy-out-apart-2
+    add-k
     loop-less
     loop-again
-    returns-3)
+    returns-2)
