@@ -68,9 +68,10 @@ module _
         all-of _ (z .places) λ i h.
         all-of _ i λ j l.
         let m : j < z .places = omega arith in
-        let t : j + 1 + (i - (j + 1)) ≡ i = omega arith in
+        let t = i - (j + 1) in
+        let here : j + 1 + t ≡ i = omega arith in
         sym (columns-say j i m h)
-        ∙ subst (λ (n : ℕ). unlike-columns j n ≡ true) t (all-at (λ t. unlike-columns j (j + 1 + t)) width (all-at (apart passing keys) (z .places) all j m) (i - (j + 1)) (omega arith))
+        ∙ subst (λ (n : ℕ). unlike-columns j n ≡ true) here (all-at (λ t. unlike-columns j (j + 1 + t)) width (all-at (apart passing keys) (z .places) all j m) t (omega arith))
 
     parted : differ z b passes key ≡ true → allBelow (apart passing keys) (z .places) ≡ true
     unfolding apart differ

@@ -8,7 +8,7 @@ use rules::Place;
 use rules::Size;
 
 // How many are live; by place, who is held and who is committed, and the begin and commit records.
-// Twice as wide as the places are many at most: behind every place stand 32 more, held or free or not there.
+// The arrays are twice as wide as there can be places, so that 32 more stand behind each: who is not there is not held and has no records.
 pub struct Columns {
     pub live: u32,
     pub held: [bool; 64],

@@ -15,7 +15,7 @@ use Rattle.keys.specs.Apart.{apart}
 use Rattle.keys.proofs.apart.is_apart.Statement.{statement}
 use Rattle.keys.proofs.apart.is_apart.Tie as tie
 
--- i and the one that is k behind the next do not both pass with the same key
+-- i and the one behind it that comes after k others do not both pass with the same key
 abbrev unlike : List Bool → List ℕ → ℕ → ℕ → Bool
 unlike passes keys i k = not (getD passes i false && (getD passes (i + 1 + k) false && eqb (getD keys i 0) (getD keys (i + 1 + k) 0)))
 
