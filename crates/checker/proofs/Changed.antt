@@ -10,11 +10,10 @@ use Rattle.rules.specs.declared.Record.{Record}
 use Rattle.rules.specs.declared.Size.{Size}
 use Rattle.rules.specs.Daylog.{judged-read-kind, write-kind, commit-kind, post-kind, kind-starts, kind-commits, kind-writes, kind-judged-read}
 use Rattle.rules.specs.Day.{sets-moment}
-use Rattle.replay.specs.declared.state.Replay.{Replay}
-use Rattle.replay.specs.Kept.{mark, holder-after, with-holder, with-moment, with-stranger, laid, noted, followed}
+use Rattle.replay.specs.Kept.{Kept, mark, holder-after, with-holder, with-moment, with-stranger, laid, noted, followed}
 
 -- s′ is s, followed by record number n, r: by its transaction's position, whether that is listed, and whether it is the named one
-pub record Follows (z : Size) (n : ℕ) (r : Record) (at : ℕ) (listed named : Bool) (s s′ : Replay) : Type 0 where
+pub record Follows (z : Size) (n : ℕ) (r : Record) (at : ℕ) (listed named : Bool) (s s′ : Kept) : Type 0 where
   pub on-holder : s′ .holder ≡ holder-after n r (s .holder)
   pub on-commit : s′ .commit ≡ cond (listed && kind-commits (r .kind)) (set (s .commit) at n) (s .commit)
   pub on-wrote : s′ .wrote ≡ cond (listed && kind-writes (r .kind)) (set (s .wrote) (mark at (r .cell)) n) (s .wrote)
@@ -23,13 +22,13 @@ pub record Follows (z : Size) (n : ℕ) (r : Record) (at : ℕ) (listed named : 
   pub on-moment : s′ .moment ≡ cond (named && sets-moment (r .kind)) n (s .moment)
   pub on-stranger : s′ .stranger ≡ (kind-commits (r .kind) && not listed) || s .stranger
 
-module _ (z : Size) (n : ℕ) (r : Record) (at : ℕ) (named : Bool) (s : Replay) where
+module _ (z : Size) (n : ℕ) (r : Record) (at : ℕ) (named : Bool) (s : Kept) where
   -- a record of kind k with the other fields of r
   abbrev of-kind : ℕ → Record
   of-kind k = record { kind = k; place = r .place; cell = r .cell; turn = r .turn; value = r .value }
 
   -- what is kept once the place and the moment are noted
-  abbrev next : ℕ → Replay
+  abbrev next : ℕ → Kept
   next k = with-moment n k named (with-holder n (of-kind k) s)
 
   -- of a listed transaction, kind by kind

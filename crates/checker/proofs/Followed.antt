@@ -19,9 +19,8 @@ use Rattle.rules.specs.Day.{whose, event, events, latest, commit-of, sets-momen
 use Rattle.rules.proofs.InTime.{read-cell, has-stranger}
 use Rattle.rules.proofs.Seats.{LiveSeat, walks-earlier, fits-live, seat-by}
 use Rattle.rules.proofs.CompanyInTime.{moment-more}
-use Rattle.replay.specs.declared.state.Replay.{Replay}
 use Rattle.listing.specs.Listed.{position}
-use Rattle.replay.specs.Kept.{mark, holder-after, laid, followed}
+use Rattle.replay.specs.Kept.{Kept, mark, holder-after, laid, followed}
 use Rattle.explains.specs.Explained.{PastOnly}
 use Rattle.checker.proofs.Arrays.{getD-set, set-bounded, mark-only, mark-within, laid-length, laid-bounded, laid-at}
 use Rattle.listing.proofs.Positions.{position-found, position-member, position-only}
@@ -80,7 +79,7 @@ cell-within z r day within w =
     let fields = walks-fields z r day w in
     split (kind-has-cell (r .kind)) (λ k. omega (arith, fields .cell-known k, within .cells)) (λ k. omega (arith, fields .cell-unused k))
 
-module _ (z : Size) (t : ℕ) (order : List ℕ) (within : Within z) (once : distinct order ≡ true) (few : length order ≤ width) (day : List Record) (s : Replay)
+module _ (z : Size) (t : ℕ) (order : List ℕ) (within : Within z) (once : distinct order ≡ true) (few : length order ≤ width) (day : List Record) (s : Kept)
     (r : Record) (m : Mirrors z t order day s) (w : walks z (r ∷ day) ≡ true) where
   -- the record's number, its transaction, where that stands in the list, and whether it does
   abbrev n : ℕ
@@ -99,7 +98,7 @@ module _ (z : Size) (t : ℕ) (order : List ℕ) (within : Within z) (once : dis
   listed-there : (i : ℕ) → i < length order → eqb i at ≡ true → listed ≡ true
   listed-there i h e = lt-ltb at (length order) (omega (arith, eqb-true i at e))
 
-  module _ (s′ : Replay) (f : Follows z n r at listed (eqb who t) s s′) where
+  module _ (s′ : Kept) (f : Follows z n r at listed (eqb who t) s s′) where
     -- by place
     holders-more : (p : ℕ) → p < z .places → 1 ≤ seat (r ∷ day) p .status → getD (s′ .holder) p 0 ≡ seat (r ∷ day) p .begin
     unfolding kind-starts

@@ -22,8 +22,7 @@ use Rattle.rules.proofs.InTime.{read-cell, has-stranger}
 use Rattle.rules.proofs.Seats.{walks-earlier, fits-live}
 use Rattle.rules.proofs.LaidOut.{fields-says}
 use Rattle.rules.proofs.Commits.{latest-zero, latest-some}
-use Rattle.replay.specs.declared.state.Replay.{Replay}
-use Rattle.replay.specs.Kept.{mark, fresh, whose-kept}
+use Rattle.replay.specs.Kept.{Kept, mark, fresh, whose-kept}
 use Rattle.explains.specs.Explained.{PastOnly}
 
 -- the record of k's latest write of the cell, 0 for none
@@ -38,7 +37,7 @@ table-record order (e ∷ earlier) c =
     cond (member (e .who) order && (kind-commits (e .kind) && wrote-cell (e ∷ earlier) (e .who) c)) (latest-write (e ∷ earlier) (e .who) c) older
 
 -- what is kept is what the records of the day say of the listed transactions and of t
-pub record Mirrors (z : Size) (t : ℕ) (order : List ℕ) (day : List Record) (s : Replay) : Type 0 where
+pub record Mirrors (z : Size) (t : ℕ) (order : List ℕ) (day : List Record) (s : Kept) : Type 0 where
   -- by place: the begin record of the transaction that holds it
   pub holders : (p : ℕ) → p < z .places → 1 ≤ seat day p .status → getD (s .holder) p 0 ≡ seat day p .begin
   -- by position: commits, writes and judged reads
@@ -85,8 +84,8 @@ unfolding walks
 walks-fields z r day w = fields-says z r .0 (and-left (fields-right z r) _ (and-right (walks z day) _ w))
 
 -- whose the next record is
-pub whose-mirrored : (z : Size) (t : ℕ) (order : List ℕ) (day : List Record) (s : Replay) (r : Record) → Mirrors z t order day s
-    → walks z (r ∷ day) ≡ true → whose-kept s r (suc (length day)) ≡ whose day r
+pub whose-mirrored : (z : Size) (t : ℕ) (order : List ℕ) (day : List Record) (s : Kept) (r : Record) → Mirrors z t order day s
+    → walks z (r ∷ day) ≡ true → whose-kept (s .holder) r (suc (length day)) ≡ whose day r
 unfolding whose
 whose-mirrored z t order day s r m w =
     split (kind-starts (r .kind)) (λ k. rw k)

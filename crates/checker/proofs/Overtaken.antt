@@ -20,9 +20,8 @@ use Rattle.rules.specs.Layout.{walks}
 use Rattle.rules.specs.Day.{Event, whose, event, events, committed, wrote-cell}
 use Rattle.rules.proofs.InTime.{read-cell, committed-cell, arises}
 use Rattle.rules.proofs.Day.{number-bounds, who-bound, whose-starts}
-use Rattle.replay.specs.declared.state.Replay.{Replay}
 use Rattle.listing.specs.Listed.{position}
-use Rattle.replay.specs.Kept.{mark}
+use Rattle.replay.specs.Kept.{Kept, mark}
 use Rattle.overtaking.specs.Later.{committed-later, used-later, any-used-later, overtaken}
 use Rattle.listing.proofs.Positions.{position-found}
 use Rattle.checker.proofs.Mirrored.{Mirrors, walks-fields, committed-told, wrote-told}
@@ -118,7 +117,7 @@ module _ (k : ℕ) where
 
 -- ---- what is kept, and what the day says
 
-module _ (z : Size) (t : ℕ) (order : List ℕ) (day : List Record) (s : Replay) (r : Record) (m : Mirrors z t order day s) (w : walks z (r ∷ day) ≡ true) where
+module _ (z : Size) (t : ℕ) (order : List ℕ) (day : List Record) (s : Kept) (r : Record) (m : Mirrors z t order day s) (w : walks z (r ∷ day) ≡ true) where
   -- the events, the record's event and its transaction, and where that stands
   abbrev es : List Event
   es = events day
@@ -144,7 +143,7 @@ module _ (z : Size) (t : ℕ) (order : List ℕ) (day : List Record) (s : Replay
   wrote-kept : (i c : ℕ) → i < length order → c < z .cells → not (eqb (getD (s .wrote) (mark i c) 0) 0) ≡ wrote-cell es (getD order i 0) c
   wrote-kept i c h k = ap (λ n. not (eqb n 0)) (m .writes i c h k) ∙ sym (wrote-told day (getD order i 0) c)
 
-  committed-later-told : committed-later s at (length order) ≡ any-later (committed es)
+  committed-later-told : committed-later (s .commit) at (length order) ≡ any-later (committed es)
   unfolding committed-later
   committed-later-told =
       any-cong (λ i. ltb at i && not (eqb (getD (s .commit) i 0) 0)) (λ i. ltb at i && committed es (getD order i 0)) (length order)
@@ -205,7 +204,7 @@ module _ (z : Size) (t : ℕ) (order : List ℕ) (day : List Record) (s : Replay
       (λ i h. ap (λ b. ltb at i && b) (arises-as f (getD order i 0)) ∙ and-fails-right (ltb at i) false refl)
 
   -- a begin
-  begin-told : r .kind ≡ begin-kind → committed-later s at (length order) ≡ any-later (arises z es (event day r))
+  begin-told : r .kind ≡ begin-kind → committed-later (s .commit) at (length order) ≡ any-later (arises z es (event day r))
   begin-told q =
       committed-later-told
       ∙ sym (later-cong (arises z es (event day r)) (committed es) (λ k. arises-as (begin-does (r .kind) q) k ∙ or-false (committed es k)))
@@ -225,7 +224,7 @@ module _ (z : Size) (t : ℕ) (order : List ℕ) (day : List Record) (s : Replay
 
   -- a post
   post-told : r .kind ≡ post-kind
-      → committed-later s at (length order) || used-later s (r .cell) at (length order) true ≡ any-later (arises z es (event day r))
+      → committed-later (s .commit) at (length order) || used-later s (r .cell) at (length order) true ≡ any-later (arises z es (event day r))
   post-told q =
       let c = r .cell in
       let known = walks-fields z r day w .cell-known (post-cell (r .kind) q) in

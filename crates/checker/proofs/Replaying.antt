@@ -21,7 +21,7 @@ use Rattle.rules.specs.Daylog.{judged-read-kind, own-read-kind, kind-starts, ki
 use Rattle.rules.specs.Layout.{walks}
 use Rattle.rules.specs.Day.{Event, whose, event, events, sets-moment, written-value}
 use Rattle.rules.proofs.InTime.{arises, table-by, in-company, step-right}
-use Rattle.replay.specs.declared.state.Replay.{Replay}
+use Rattle.replay.specs.Kept.{Kept}
 use Rattle.listing.specs.Listed.{position, all-in-time}
 use Rattle.overtaking.specs.Later.{overtaken}
 use Rattle.explains.specs.Explained.{CellRight, value-at, source, read-explained, own-explained, explained}
@@ -72,7 +72,7 @@ own-read-does : (k : ℕ) → k ≡ own-read-kind → (kind-starts k ≡ false) 
 unfolding kind-starts kind-judged-read kind-commits
 own-read-does k q = (ap kind-starts q, ap kind-judged-read q, ap kind-commits q)
 
-module _ (z : Size) (t : ℕ) (order : List ℕ) (once : distinct order ≡ true) (opening log : List ℕ) (day : List Record) (s : Replay) (r : Record)
+module _ (z : Size) (t : ℕ) (order : List ℕ) (once : distinct order ≡ true) (opening log : List ℕ) (day : List Record) (s : Kept) (r : Record)
     (m : Mirrors z t order day s) (w : walks z (r ∷ day) ≡ true) (of-log : day ≡ day-of log (length day)) (next : r ≡ decode (bytes-at log (length day)))
     (l : position order (whose day r) < length order) where
   -- the events, the record's transaction, its cell, where it stands, and who comes to stand before it
@@ -108,7 +108,7 @@ module _ (z : Size) (t : ℕ) (order : List ℕ) (once : distinct order ≡ true
       ap₂ _&&_ (ap not (written-later-told z t order day s r m w c known ∙ sym (read-arises z t order day s r m w q)))
       (ap₂ same value-here (ap (λ n. source opening log n c) (m .tables c known) ∙ table-valued log opening order day c (valued log day of-log)))
 
-  own-says : r .kind ≡ own-read-kind → own-explained opening log s c (suc (length day)) at ≡ not overtakes && from-own
+  own-says : r .kind ≡ own-read-kind → own-explained opening log (s .wrote) c (suc (length day)) at ≡ not overtakes && from-own
   unfolding own-explained
   own-says q =
       let known = walks-fields z r day w .cell-known (own-read-cell (r .kind) q) in
@@ -119,7 +119,7 @@ module _ (z : Size) (t : ℕ) (order : List ℕ) (once : distinct order ≡ true
 
   -- all but the question who is a stranger
   rest-says : cond (eqb (r .kind) judged-read-kind) (read-explained opening log s c (suc (length day)) at (length order))
-      (cond (eqb (r .kind) own-read-kind) (own-explained opening log s c (suc (length day)) at) (not (overtaken z s (r .kind) c at (length order))))
+      (cond (eqb (r .kind) own-read-kind) (own-explained opening log (s .wrote) c (suc (length day)) at) (not (overtaken z s (r .kind) c at (length order))))
       ≡ not overtakes && (cond (kind-judged-read (r .kind)) from-table true && cond (kind-own-read (r .kind)) from-own true)
   unfolding kind-judged-read kind-own-read
   rest-says =
@@ -159,8 +159,8 @@ unlisted-right z opening t order day r n i =
 -- ---- the company
 
 -- the list is in time exactly if all of it is in the company
-pub in-time-says : (z : Size) (t : ℕ) (order : List ℕ) (day : List Record) (s : Replay) → Mirrors z t order day s
-    → all-in-time s order t ≡ allIn (in-company (events day) t) order
+pub in-time-says : (z : Size) (t : ℕ) (order : List ℕ) (day : List Record) (s : Kept) → Mirrors z t order day s
+    → all-in-time (s .commit) (s .moment) order t ≡ allIn (in-company (events day) t) order
 unfolding all-in-time in-company
 in-time-says z t order day s m =
     all-cong _ (λ i. in-company (events day) t (getD order i 0)) (length order)

@@ -21,8 +21,7 @@ use Rattle.rules.specs.Checker.{accepted}
 use Rattle.rules.proofs.InTime.{step-right, replays}
 use Rattle.rules.proofs.Daylog.{length-day-of}
 use Rattle.readback.proofs.FollowedLog.{walks-first}
-use Rattle.replay.specs.declared.state.Replay.{Replay}
-use Rattle.replay.specs.Kept.{fresh, whose-kept, followed}
+use Rattle.replay.specs.Kept.{Kept, fresh, whose-kept, followed}
 use Rattle.listing.specs.Listed.{position, all-in-time}
 use Rattle.explains.specs.Explained.{PastOnly, CellRight, explained}
 use Rattle.checker.proofs.Mirrored.{Mirrors, mirrors-fresh, whose-mirrored}
@@ -33,7 +32,7 @@ use Rattle.checker.proofs.Stepwise.{replays-on, accepted-not, accepted-
 
 module _ (z : Size) (opening log : List ℕ) (t : ℕ) (order : List ℕ) where
   -- after n records: what is kept mirrors them, and each is explained
-  pub record Turn (n : ℕ) (s : Replay) : Type 0 where
+  pub record Turn (n : ℕ) (s : Kept) : Type 0 where
     pub mirrors : Mirrors z t order (day-of log n) s
     pub explains : replays z opening t order (events (day-of log n)) ≡ true
 
@@ -43,7 +42,7 @@ module _ (z : Size) (opening log : List ℕ) (t : ℕ) (order : List ℕ) where
   turn-none = record { mirrors = mirrors-fresh z t order; explains = refl }
 
   module _ (m : ℕ) (within : Within z) (walk : walks z (day-of log m) ≡ true) (once : distinct order ≡ true) (few : length order ≤ width) where
-    module _ (n : ℕ) (s : Replay) (below : n < m) (turn : Turn n s) where
+    module _ (n : ℕ) (s : Kept) (below : n < m) (turn : Turn n s) where
       -- the next record, behind the first n
       abbrev day : List Record
       day = day-of log n
@@ -72,10 +71,10 @@ module _ (z : Size) (opening log : List ℕ) (t : ℕ) (order : List ℕ) where
           (λ c. omega (arith, past .0 c), λ j. omega (arith, past .1 j))
 
       -- whose it is
-      whose-next : whose-kept s next (n + 1) ≡ whose day next
-      whose-next = ap (whose-kept s next) (sym number) ∙ whose-mirrored z t order day s next (turn .mirrors) walk-on
+      whose-next : whose-kept (s .holder) next (n + 1) ≡ whose day next
+      whose-next = ap (whose-kept (s .holder) next) (sym number) ∙ whose-mirrored z t order day s next (turn .mirrors) walk-on
 
-      module _ (who at : ℕ) (its : who ≡ whose-kept s next (n + 1)) (there : at ≡ position order who) where
+      module _ (who at : ℕ) (its : who ≡ whose-kept (s .holder) next (n + 1)) (there : at ≡ position order who) where
         who-is : who ≡ whose day next
         who-is = its ∙ whose-next
 
@@ -122,28 +121,28 @@ module _ (z : Size) (opening log : List ℕ) (t : ℕ) (order : List ℕ) where
         next-fails known listed h wrong = accepted-not z opening t order log m walk known once listed n below (sym (told h) ∙ wrong)
 
       -- the same of the record as it is read
-      pub turn-on : member t order ≡ true → (entry : Record) → entry ≡ next → (who at : ℕ) → who ≡ whose-kept s entry (n + 1) → at ≡ position order who
+      pub turn-on : member t order ≡ true → (entry : Record) → entry ≡ next → (who at : ℕ) → who ≡ whose-kept (s .holder) entry (n + 1) → at ≡ position order who
           → (at < length order → explained z opening log s entry (n + 1) at (length order) (eqb who t) ≡ true)
           → Turn (n + 1) (followed z (n + 1) entry at (length order) (eqb who t) s)
       turn-on listed entry read =
           subst
-          (λ (r : Record). (who at : ℕ) → who ≡ whose-kept s r (n + 1) → at ≡ position order who
+          (λ (r : Record). (who at : ℕ) → who ≡ whose-kept (s .holder) r (n + 1) → at ≡ position order who
           → (at < length order → explained z opening log s r (n + 1) at (length order) (eqb who t) ≡ true)
           → Turn (n + 1) (followed z (n + 1) r at (length order) (eqb who t) s))
           (sym read) (λ who at its there. next-on who at its there listed)
 
       pub turn-fails : is-transaction (events (day-of log m)) t ≡ true → member t order ≡ true → (entry : Record) → entry ≡ next → (who at : ℕ)
-          → who ≡ whose-kept s entry (n + 1) → at ≡ position order who → at < length order
+          → who ≡ whose-kept (s .holder) entry (n + 1) → at ≡ position order who → at < length order
           → explained z opening log s entry (n + 1) at (length order) (eqb who t) ≡ false
           → accepted z opening (events (day-of log m)) t order ≡ false
       turn-fails known listed entry read =
           subst
-          (λ (r : Record). (who at : ℕ) → who ≡ whose-kept s r (n + 1) → at ≡ position order who → at < length order
+          (λ (r : Record). (who at : ℕ) → who ≡ whose-kept (s .holder) r (n + 1) → at ≡ position order who → at < length order
           → explained z opening log s r (n + 1) at (length order) (eqb who t) ≡ false → accepted z opening (events (day-of log m)) t order ≡ false)
           (sym read) (λ who at its there. next-fails who at its there known listed)
 
     -- at the end: it is accepted exactly if everybody listed is in time
-    pub turn-ends : (s : Replay) → is-transaction (events (day-of log m)) t ≡ true → member t order ≡ true → Turn m s
-        → all-in-time s order t ≡ accepted z opening (events (day-of log m)) t order
+    pub turn-ends : (s : Kept) → is-transaction (events (day-of log m)) t ≡ true → member t order ≡ true → Turn m s
+        → all-in-time (s .commit) (s .moment) order t ≡ accepted z opening (events (day-of log m)) t order
     turn-ends s known listed turn =
         in-time-says z t order (day-of log m) s (turn .mirrors) ∙ sym (accepted-end z opening t order log m walk known once listed (turn .explains))

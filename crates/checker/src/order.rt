@@ -25,6 +25,8 @@ fn is_replayed(opening: &[u8], log: &[u8], records: u16, t: u16, list: &[u16], z
     requires { ⌜ is-transaction (events (day-of (now log) records)) t ≡ true ⌝ }
     ensures { λ r. ⌜ r ≡ accepted z (now (opening .entry)) (events (day-of (now (log .entry)) records)) t (now (list .entry)) ⌝ }
 {
+    let mut wrote = [0u16; 1024];
+    let mut read = [false; 1024];
     let mut kept = state::fresh(t);
     let mut n: u16 = 0;
     while n < records {
@@ -33,11 +35,33 @@ fn is_replayed(opening: &[u8], log: &[u8], records: u16, t: u16, list: &[u16], z
         let who = state::whose(kept, entry, n);
         let at = lists::position(list, who);
         if at < list.len() {
-            if !explain::is_explained(kept, opening, log, entry, n, at, list.len(), who == t, z) {
+            if !explain::is_explained(
+                kept,
+                &wrote,
+                &read,
+                opening,
+                log,
+                entry,
+                n,
+                at,
+                list.len(),
+                who == t,
+                z,
+            ) {
                 return false;
             }
         }
-        kept = state::follow(kept, entry, n, at, list.len(), who == t, z);
+        kept = state::follow(
+            kept,
+            &mut wrote,
+            &mut read,
+            entry,
+            n,
+            at,
+            list.len(),
+            who == t,
+            z,
+        );
     }
     company::is_in_time(kept, list, t)
 }

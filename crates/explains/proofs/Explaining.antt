@@ -8,11 +8,11 @@ use Rattle.basics.proofs.Bools.{cond-passes, cond-fails}
 use Rattle.rules.specs.declared.Record.{Record}
 use Rattle.rules.specs.declared.Size.{Size}
 use Rattle.rules.specs.Day.{sets-moment}
-use Rattle.replay.specs.declared.state.Replay.{Replay}
+use Rattle.replay.specs.Kept.{Kept}
 use Rattle.overtaking.specs.Later.{overtaken}
 use Rattle.explains.specs.Explained.{read-explained, own-explained, explained}
 
-module _ (z : Size) (opening log : List ℕ) (s : Replay) (r : Record) (n at count : ℕ) (named : Bool) {sets : Bool} (e : sets ≡ sets-moment (r .kind)) where
+module _ (z : Size) (opening log : List ℕ) (s : Kept) (r : Record) (n at count : ℕ) (named : Bool) {sets : Bool} (e : sets ≡ sets-moment (r .kind)) where
   -- as the answer about the kind says
   answered : {b : Bool} → (named && sets) && s .stranger ≡ b → (named && sets-moment (r .kind)) && s .stranger ≡ b
   answered late = ap (λ a. (named && a) && s .stranger) (sym e) ∙ late
@@ -29,7 +29,7 @@ module _ (z : Size) (opening log : List ℕ) (s : Replay) (r : Record) (n at cou
     judged-explained judged = rw (answered in-time) (sym (cond-passes _ _ (eq-eqb (r .kind) 2 judged)))
 
     module _ (not-judged : r .kind ≡ 2 → ⊥) where
-      pub kept-explained : r .kind ≡ 3 → own-explained opening log s (r .cell) n at ≡ explained z opening log s r n at count named
+      pub kept-explained : r .kind ≡ 3 → own-explained opening log (s .wrote) (r .cell) n at ≡ explained z opening log s r n at count named
       unfolding explained
       kept-explained own =
           rw (answered in-time) (sym (cond-fails _ _ (ne-eqb (r .kind) 2 not-judged) ∙ cond-passes _ _ (eq-eqb (r .kind) 3 own)))

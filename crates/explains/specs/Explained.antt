@@ -12,15 +12,18 @@ use Rattle.rules.specs.Sizes.{cell-bytes, record-bytes, width}
 use Rattle.rules.specs.Cells.{cell-of}
 use Rattle.rules.specs.Daylog.{judged-read-kind, own-read-kind}
 use Rattle.rules.specs.Day.{sets-moment}
-use Rattle.replay.specs.declared.state.Replay.{Replay}
-use Rattle.replay.specs.Kept.{mark}
+use Rattle.replay.specs.Kept.{Kept, mark}
 use Rattle.overtaking.specs.Later.{used-later, overtaken}
 
 -- ---- what is asked
 
--- the record numbers that are kept are of the first n records
-abbrev pub PastOnly : ℕ → Replay → Type 0
-PastOnly n s = ((c : ℕ) → getD (s .table) c 0 ≤ n) × ((j : ℕ) → getD (s .wrote) j 0 ≤ n)
+-- record numbers are of the first n records
+abbrev pub Past : ℕ → List ℕ → Type 0
+Past n xs = (i : ℕ) → getD xs i 0 ≤ n
+
+-- those that are kept are
+abbrev pub PastOnly : ℕ → Kept → Type 0
+PastOnly n s = Past n (s .table) × Past n (s .wrote)
 
 -- a record's cell is within the arrays, and one of the table's where it is read
 pub record CellRight (z : Size) (r : Record) : Type 0 where
@@ -41,17 +44,17 @@ source opening log w c = cond (eqb w 0) (cell-of opening c) (value-at log w)
 -- ---- a record
 
 -- a judged read: nobody listed later has committed the cell, and the value is the table's
-unfoldable pub read-explained : List ℕ → List ℕ → Replay → ℕ → ℕ → ℕ → ℕ → Bool
+unfoldable pub read-explained : List ℕ → List ℕ → Kept → ℕ → ℕ → ℕ → ℕ → Bool
 read-explained opening log s c n at count =
     not (used-later s c at count false) && same (value-at log n) (source opening log (getD (s .table) c 0) c)
 
 -- an own read: the value is that of the transaction's latest write of the cell
-unfoldable pub own-explained : List ℕ → List ℕ → Replay → ℕ → ℕ → ℕ → Bool
-own-explained opening log s c n at = same (value-at log n) (source opening log (getD (s .wrote) (mark at c) 0) c)
+unfoldable pub own-explained : List ℕ → List ℕ → List ℕ → ℕ → ℕ → ℕ → Bool
+own-explained opening log wrote c n at = same (value-at log n) (source opening log (getD wrote (mark at c) 0) c)
 
 -- record number n, r, of the transaction listed at a position
-unfoldable pub explained : Size → List ℕ → List ℕ → Replay → Record → ℕ → ℕ → ℕ → Bool → Bool
+unfoldable pub explained : Size → List ℕ → List ℕ → Kept → Record → ℕ → ℕ → ℕ → Bool → Bool
 explained z opening log s r n at count named =
     not ((named && sets-moment (r .kind)) && s .stranger)
     && cond (eqb (r .kind) judged-read-kind) (read-explained opening log s (r .cell) n at count)
-    (cond (eqb (r .kind) own-read-kind) (own-explained opening log s (r .cell) n at) (not (overtaken z s (r .kind) (r .cell) at count)))
+    (cond (eqb (r .kind) own-read-kind) (own-explained opening log (s .wrote) (r .cell) n at) (not (overtaken z s (r .kind) (r .cell) at count)))

@@ -3,7 +3,8 @@ ghost use mathlib.Core.Path.{_≡_};
 ghost use Prim.Native.Nat.{_*_, _<_, _≤_};
 ghost use lib.ListN.{length};
 ghost use Rattle.rules.specs.Sizes.{Within, width, record-bytes, table-bytes};
-ghost use Rattle.explains.specs.Explained.{PastOnly, CellRight, read-explained, own-explained, explained};
+ghost use Rattle.replay.specs.Kept.{kept-of};
+ghost use Rattle.explains.specs.Explained.{Past, PastOnly, CellRight, read-explained, own-explained, explained};
 use crate::values;
 use overtaking::later;
 use replay::state;
@@ -14,6 +15,8 @@ use rules::Size;
 // A judged read: nobody listed later has committed the cell, and the value is the table's.
 fn is_read_explained(
     from: Replay,
+    wrote: &[u16; 1024],
+    read: &[bool; 1024],
     opening: &[u8],
     log: &[u8],
     cell: usize,
@@ -23,12 +26,12 @@ fn is_read_explained(
     z: Size,
 ) -> bool
     requires { ⌜ Within z ⌝ }
-    requires { ⌜ PastOnly n from ⌝ }
+    requires { ⌜ Past n (from .table) ⌝ }
     requires { ⌜ (1 ≤ n) × (record-bytes * n ≤ length (now log)) ⌝ }
     requires { ⌜ (length (now opening) ≡ table-bytes z) × ((cell < z .cells) × (count ≤ width)) ⌝ }
-    ensures { λ r. ⌜ r ≡ read-explained (now (opening .entry)) (now (log .entry)) from cell n at count ⌝ }
+    ensures { λ r. ⌜ r ≡ read-explained (now (opening .entry)) (now (log .entry)) (kept-of from (now (wrote .entry)) (now (read .entry))) cell n at count ⌝ }
 {
-    if later::is_used_later(from, cell, at, count, false) {
+    if later::is_used_later(from, wrote, read, cell, at, count, false) {
         return false;
     }
     let source = from.table[cell];
@@ -37,7 +40,7 @@ fn is_read_explained(
 
 // An own read: the value is that of the transaction's latest write of the cell.
 fn is_own_explained(
-    from: Replay,
+    wrote: &[u16; 1024],
     opening: &[u8],
     log: &[u8],
     cell: usize,
@@ -46,13 +49,13 @@ fn is_own_explained(
     z: Size,
 ) -> bool
     requires { ⌜ Within z ⌝ }
-    requires { ⌜ PastOnly n from ⌝ }
+    requires { ⌜ Past n (now wrote) ⌝ }
     requires { ⌜ (1 ≤ n) × (record-bytes * n ≤ length (now log)) ⌝ }
     requires { ⌜ (length (now opening) ≡ table-bytes z) × ((cell < z .cells) × (at < width)) ⌝ }
-    ensures { λ r. ⌜ r ≡ own-explained (now (opening .entry)) (now (log .entry)) from cell n at ⌝ }
+    ensures { λ r. ⌜ r ≡ own-explained (now (opening .entry)) (now (log .entry)) (now (wrote .entry)) cell n at ⌝ }
 {
     let mark = 32 * at + cell;
-    let source = from.wrote[mark];
+    let source = wrote[mark];
     values::is_from(opening, log, n, source, cell)
 }
 
@@ -60,6 +63,8 @@ fn is_own_explained(
 // to stand before it, and what it read is what the list carries to it.
 pub fn is_explained(
     from: Replay,
+    wrote: &[u16; 1024],
+    read: &[bool; 1024],
     opening: &[u8],
     log: &[u8],
     entry: Record,
@@ -70,21 +75,21 @@ pub fn is_explained(
     z: Size,
 ) -> bool
     requires { ⌜ Within z ⌝ }
-    requires { ⌜ PastOnly n from ⌝ }
+    requires { ⌜ PastOnly n (kept-of from (now wrote) (now read)) ⌝ }
     requires { ⌜ (1 ≤ n) × ((record-bytes * n ≤ length (now log)) × (length (now opening) ≡ table-bytes z)) ⌝ }
     requires { ⌜ CellRight z entry ⌝ }
     requires { ⌜ (at < count) × (count ≤ width) ⌝ }
-    ensures { λ r. ⌜ r ≡ explained z (now (opening .entry)) (now (log .entry)) from entry n at count named ⌝ }
+    ensures { λ r. ⌜ r ≡ explained z (now (opening .entry)) (now (log .entry)) (kept-of from (now (wrote .entry)) (now (read .entry))) entry n at count named ⌝ }
 {
     let cell = entry.cell as usize;
     if (named & state::sets_moment(entry.kind)) & from.stranger {
         return false;
     }
     if entry.kind == 2 {
-        return is_read_explained(from, opening, log, cell, n, at, count, z);
+        return is_read_explained(from, wrote, read, opening, log, cell, n, at, count, z);
     }
     if entry.kind == 3 {
-        return is_own_explained(from, opening, log, cell, n, at, z);
+        return is_own_explained(wrote, opening, log, cell, n, at, z);
     }
-    !later::is_overtaken(from, entry.kind, cell, at, count, z)
+    !later::is_overtaken(from, wrote, read, entry.kind, cell, at, count, z)
 }

@@ -9,7 +9,7 @@ use replay::state::Replay;
 // Each listed transaction is the named one, or committed before its moment.
 pub fn is_in_time(from: Replay, list: &[u16], t: u16) -> bool
     requires { ⌜ length (now list) ≤ width ⌝ }
-    ensures { λ r. ⌜ r ≡ all-in-time from (now (list .entry)) t ⌝ }
+    ensures { λ r. ⌜ r ≡ all-in-time (from .commit) (from .moment) (now (list .entry)) t ⌝ }
 {
     let mut i = 0;
     while i < list.len() {

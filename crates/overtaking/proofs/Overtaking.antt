@@ -5,12 +5,12 @@ use mathlib.Core.Bool.{true, false, _||_}
 use borrow.Author.Tests.{eq-eqb, ne-eqb}
 use Rattle.basics.proofs.Bools.{cond-passes, cond-fails}
 use Rattle.rules.specs.declared.Size.{Size}
-use Rattle.replay.specs.declared.state.Replay.{Replay}
+use Rattle.replay.specs.Kept.{Kept}
 use Rattle.overtaking.specs.Later.{committed-later, used-later, any-used-later, overtaken}
 
-module _ (z : Size) (s : Replay) (kind c at count : ℕ) where
+module _ (z : Size) (s : Kept) (kind c at count : ℕ) where
   -- by kind: a begin, a commit, a post, another
-  pub begin-overtaken : kind ≡ 1 → committed-later s at count ≡ overtaken z s kind c at count
+  pub begin-overtaken : kind ≡ 1 → committed-later (s .commit) at count ≡ overtaken z s kind c at count
   unfolding overtaken
   begin-overtaken e = sym (cond-passes _ _ (eq-eqb kind 1 e))
 
@@ -20,7 +20,7 @@ module _ (z : Size) (s : Replay) (kind c at count : ℕ) where
     commit-overtaken e = sym (cond-fails _ _ (ne-eqb kind 1 not-begin) ∙ cond-passes _ _ (eq-eqb kind 5 e))
 
     module _ (not-commit : kind ≡ 5 → ⊥) where
-      pub post-overtaken : kind ≡ 9 → committed-later s at count || used-later s c at count true ≡ overtaken z s kind c at count
+      pub post-overtaken : kind ≡ 9 → committed-later (s .commit) at count || used-later s c at count true ≡ overtaken z s kind c at count
       unfolding overtaken
       post-overtaken e =
           sym

@@ -1,20 +1,20 @@
 -- Who is listed later than a position, and has already done what would put it before the one that stands there, told on what a replay keeps.
 use Prim.Native.Nat.{ℕ}
 use mathlib.Core.Bool.{Bool, true, false, not, cond, _&&_, _||_}
+use mathlib.Core.List.{List}
 use lib.ListN.{getD}
 use lib.Dec.{ltb, eqb}
 use Rattle.basics.specs.Below.{anyBelow}
 use Rattle.rules.specs.declared.Size.{Size}
 use Rattle.rules.specs.Daylog.{begin-kind, commit-kind, post-kind}
-use Rattle.replay.specs.declared.state.Replay.{Replay}
-use Rattle.replay.specs.Kept.{mark}
+use Rattle.replay.specs.Kept.{Kept, mark}
 
 -- somebody who has committed
-unfoldable pub committed-later : Replay → ℕ → ℕ → Bool
-committed-later s at count = anyBelow (λ i. ltb at i && not (eqb (getD (s .commit) i 0) 0)) count
+unfoldable pub committed-later : List ℕ → ℕ → ℕ → Bool
+committed-later commit at count = anyBelow (λ i. ltb at i && not (eqb (getD commit i 0) 0)) count
 
 -- somebody who has committed the cell or, where reads count, made a judged read of it
-unfoldable pub used-later : Replay → ℕ → ℕ → ℕ → Bool → Bool
+unfoldable pub used-later : Kept → ℕ → ℕ → ℕ → Bool → Bool
 used-later s c at count reads =
     anyBelow
     (λ i.
@@ -23,12 +23,12 @@ used-later s c at count reads =
     count
 
 -- somebody who has used one of the cells that the one at the position has written
-unfoldable pub any-used-later : Size → Replay → ℕ → ℕ → Bool
+unfoldable pub any-used-later : Size → Kept → ℕ → ℕ → Bool
 any-used-later z s at count = anyBelow (λ c. not (eqb (getD (s .wrote) (mark at c) 0) 0) && used-later s c at count true) (z .cells)
 
 -- with a record of the kind, somebody who comes to stand before the one at the position
-unfoldable pub overtaken : Size → Replay → ℕ → ℕ → ℕ → ℕ → Bool
+unfoldable pub overtaken : Size → Kept → ℕ → ℕ → ℕ → ℕ → Bool
 overtaken z s kind c at count =
-    cond (eqb kind begin-kind) (committed-later s at count)
+    cond (eqb kind begin-kind) (committed-later (s .commit) at count)
     (cond (eqb kind commit-kind) (any-used-later z s at count)
-    (cond (eqb kind post-kind) (committed-later s at count || used-later s c at count true) false))
+    (cond (eqb kind post-kind) (committed-later (s .commit) at count || used-later s c at count true) false))

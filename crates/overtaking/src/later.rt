@@ -2,6 +2,7 @@
 ghost use mathlib.Core.Path.{_≡_};
 ghost use Prim.Native.Nat.{_<_, _≤_};
 ghost use Rattle.rules.specs.Sizes.{Within, width};
+ghost use Rattle.replay.specs.Kept.{kept-of};
 ghost use Rattle.overtaking.specs.Later.{committed-later, used-later, any-used-later, overtaken};
 use replay::state::Replay;
 use rules::Size;
@@ -9,7 +10,7 @@ use rules::Size;
 // Somebody listed later has committed.
 pub fn is_committed_later(from: Replay, at: usize, count: usize) -> bool
     requires { ⌜ count ≤ width ⌝ }
-    ensures { λ r. ⌜ r ≡ committed-later from at count ⌝ }
+    ensures { λ r. ⌜ r ≡ committed-later (from .commit) at count ⌝ }
 {
     let mut i = 0;
     while i < count {
@@ -22,15 +23,23 @@ pub fn is_committed_later(from: Replay, at: usize, count: usize) -> bool
 }
 
 // Somebody listed later has committed the cell or, where reads count, made a judged read of it.
-pub fn is_used_later(from: Replay, cell: usize, at: usize, count: usize, reads: bool) -> bool
+pub fn is_used_later(
+    from: Replay,
+    wrote: &[u16; 1024],
+    read: &[bool; 1024],
+    cell: usize,
+    at: usize,
+    count: usize,
+    reads: bool,
+) -> bool
     requires { ⌜ (count ≤ width) × (cell < width) ⌝ }
-    ensures { λ r. ⌜ r ≡ used-later from cell at count reads ⌝ }
+    ensures { λ r. ⌜ r ≡ used-later (kept-of from (now (wrote .entry)) (now (read .entry))) cell at count reads ⌝ }
 {
     let mut i = 0;
     while i < count {
         let mark = 32 * i + cell;
-        let wrote = (from.commit[i] != 0) & (from.wrote[mark] != 0);
-        if (at < i) & (wrote | (reads & from.read[mark])) {
+        let committed = (from.commit[i] != 0) & (wrote[mark] != 0);
+        if (at < i) & (committed | (reads & read[mark])) {
             return true;
         }
         i += 1;
@@ -39,15 +48,22 @@ pub fn is_used_later(from: Replay, cell: usize, at: usize, count: usize, reads: 
 }
 
 // Somebody listed later has used one of the cells that the one at the position has written.
-pub fn is_any_used_later(from: Replay, at: usize, count: usize, z: Size) -> bool
+pub fn is_any_used_later(
+    from: Replay,
+    wrote: &[u16; 1024],
+    read: &[bool; 1024],
+    at: usize,
+    count: usize,
+    z: Size,
+) -> bool
     requires { ⌜ Within z ⌝ }
     requires { ⌜ (count ≤ width) × (at < width) ⌝ }
-    ensures { λ r. ⌜ r ≡ any-used-later z from at count ⌝ }
+    ensures { λ r. ⌜ r ≡ any-used-later z (kept-of from (now (wrote .entry)) (now (read .entry))) at count ⌝ }
 {
     let mut c = 0;
     while c < z.cells {
         let mark = 32 * at + c;
-        if (from.wrote[mark] != 0) & is_used_later(from, c, at, count, true) {
+        if (wrote[mark] != 0) & is_used_later(from, wrote, read, c, at, count, true) {
             return true;
         }
         c += 1;
@@ -56,19 +72,29 @@ pub fn is_any_used_later(from: Replay, at: usize, count: usize, z: Size) -> bool
 }
 
 // With a record that starts or commits, somebody listed later comes to stand before its transaction.
-pub fn is_overtaken(from: Replay, kind: u8, cell: usize, at: usize, count: usize, z: Size) -> bool
+pub fn is_overtaken(
+    from: Replay,
+    wrote: &[u16; 1024],
+    read: &[bool; 1024],
+    kind: u8,
+    cell: usize,
+    at: usize,
+    count: usize,
+    z: Size,
+) -> bool
     requires { ⌜ Within z ⌝ }
     requires { ⌜ (count ≤ width) × ((at < width) × (cell < width)) ⌝ }
-    ensures { λ r. ⌜ r ≡ overtaken z from kind cell at count ⌝ }
+    ensures { λ r. ⌜ r ≡ overtaken z (kept-of from (now (wrote .entry)) (now (read .entry))) kind cell at count ⌝ }
 {
     if kind == 1 {
         return is_committed_later(from, at, count);
     }
     if kind == 5 {
-        return is_any_used_later(from, at, count, z);
+        return is_any_used_later(from, wrote, read, at, count, z);
     }
     if kind == 9 {
-        return is_committed_later(from, at, count) | is_used_later(from, cell, at, count, true);
+        return is_committed_later(from, at, count)
+            | is_used_later(from, wrote, read, cell, at, count, true);
     }
     false
 }

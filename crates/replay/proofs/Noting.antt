@@ -7,10 +7,9 @@ use Rattle.basics.proofs.Bools.{cond-passes, cond-fails}
 use Rattle.rules.specs.declared.Record.{Record}
 use Rattle.rules.specs.declared.Size.{Size}
 use Rattle.rules.specs.Daylog.{kind-commits}
-use Rattle.replay.specs.declared.state.Replay.{Replay}
-use Rattle.replay.specs.Kept.{mark, with-holder, with-moment, with-read, with-write, with-stranger, sealed, noted, followed}
+use Rattle.replay.specs.Kept.{Kept, mark, with-holder, with-moment, with-read, with-write, with-stranger, sealed, noted, followed}
 
-module _ (z : Size) (n : ℕ) (r : Record) (at : ℕ) (s : Replay) where
+module _ (z : Size) (n : ℕ) (r : Record) (at : ℕ) (s : Kept) where
   -- where the transaction's use of the record's cell is kept
   abbrev there : ℕ
   there = mark at (r .cell)
@@ -53,8 +52,8 @@ module _ (z : Size) (n : ℕ) (r : Record) (at : ℕ) (s : Replay) where
             ∙ cond-fails _ _ (ne-eqb (r .kind) 5 not-commit)
             ∙ cond-fails _ _ (ne-eqb (r .kind) 9 not-post))
 
-module _ (z : Size) (n : ℕ) (r : Record) (at count : ℕ) (named : Bool) (s : Replay) where
-  module _ {held next : Replay} (h : held ≡ with-holder n r s) (e : next ≡ with-moment n (r .kind) named held) where
+module _ (z : Size) (n : ℕ) (r : Record) (at count : ℕ) (named : Bool) (s : Kept) where
+  module _ {held next : Kept} (h : held ≡ with-holder n r s) (e : next ≡ with-moment n (r .kind) named held) where
     -- so far, the record has changed the holder and the moment
     so-far : next ≡ with-moment n (r .kind) named (with-holder n r s)
     so-far = e ∙ ap (with-moment n (r .kind) named) h

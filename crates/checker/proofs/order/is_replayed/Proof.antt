@@ -6,15 +6,16 @@ use mathlib.Core.Logic.{⊎-elim}
 use native.Mathlib.Omega.{arith}
 use borrow.Author.Needs.{needs}
 use borrow.Author.Tests.{not-true, not-false}
+use Rattle.replay.specs.Kept.{kept-of}
 use Rattle.checker.proofs.Turns.{Turn, turn-none, entry-place, entry-cell, past-only, turn-on, turn-fails, turn-ends}
 use Rattle.checker.proofs.order.is_replayed.Statement.{statement}
 use Rattle.checker.proofs.order.is_replayed.Tie as tie
 
 abbrev Inv-loop : tie.InvT-loop
-Inv-loop opening log records t list z kept₀ n₀ kept n = (n ≤ records) × Turn z opening log t list n kept
+Inv-loop opening log records t list z wrote₀ read₀ kept₀ n₀ wrote read kept n = (n ≤ records) × Turn z opening log t list n (kept-of kept wrote read)
 
 abbrev μ-loop : tie.MeasureT-loop
-μ-loop opening log records t list z kept₀ n₀ kept n = records - n
+μ-loop opening log records t list z wrote₀ read₀ kept₀ n₀ wrote read kept n = records - n
 
 fresh-requires : tie.Need-fresh-requires Inv-loop μ-loop
 fresh-requires c κs = search needs
@@ -35,58 +36,62 @@ whose-requires c κs =
     let a = c .before .before .before .before .before .before .before .args in
     let pre = c .before .before .before .before .before .before .before .pre in
     let turn = c .before .before .loop in
-    entry-place (a .z) (a .opening .now) (a .log .now) (a .t) (a .list .now) (a .records) (pre .0) (pre .1 .0 .1) (pre .1 .1 .1 .0 .0) (pre .1 .1 .0 .1) (turn .n) (turn .kept) (omega arith) (turn .inv .1) (c .record-at .result) (c .record-at .ensures)
+    entry-place (a .z) (a .opening .now) (a .log .now) (a .t) (a .list .now) (a .records) (pre .0) (pre .1 .0 .1) (pre .1 .1 .1 .0 .0) (pre .1 .1 .0 .1) (turn .n) (kept-of (turn .kept) (turn .wrote) (turn .read)) (omega arith) (turn .inv .1) (c .record-at .result) (c .record-at .ensures)
 
 position-requires : tie.Need-position-requires Inv-loop μ-loop
 position-requires c κs = search needs
 
 is-explained-requires : tie.Need-is-explained-requires Inv-loop μ-loop
 is-explained-requires c κs =
-    let a = c .before .before .before .before .before .before .before .before .before .before .args in
-    let pre = c .before .before .before .before .before .before .before .before .before .before .pre in
-    let turn = c .before .before .before .before .before .loop in
-    let read = c .before .before .before .record-at in
-    let past = past-only (a .z) (a .opening .now) (a .log .now) (a .t) (a .list .now) (a .records) (pre .0) (pre .1 .0 .1) (pre .1 .1 .1 .0 .0) (pre .1 .1 .0 .1) (turn .n) (turn .kept) (omega arith) (turn .inv .1) in
-    let cell = entry-cell (a .z) (a .opening .now) (a .log .now) (a .t) (a .list .now) (a .records) (pre .0) (pre .1 .0 .1) (pre .1 .1 .1 .0 .0) (pre .1 .1 .0 .1) (turn .n) (turn .kept) (omega arith) (turn .inv .1) (read .result) (read .ensures) in
-    (pre .0, (past, ((omega arith, (omega (arith, pre .1 .0 .0), pre .1 .1 .0 .0)), (cell, (c .if1 .taken, pre .1 .1 .0 .1)))))
+    let there = c .before .before in
+    let a = there .before .before .before .before .before .before .before .before .before .before .args in
+    let pre = there .before .before .before .before .before .before .before .before .before .before .pre in
+    let turn = there .before .before .before .before .before .loop in
+    let read = there .before .before .before .record-at in
+    let past = past-only (a .z) (a .opening .now) (a .log .now) (a .t) (a .list .now) (a .records) (pre .0) (pre .1 .0 .1) (pre .1 .1 .1 .0 .0) (pre .1 .1 .0 .1) (turn .n) (kept-of (turn .kept) (turn .wrote) (turn .read)) (omega arith) (turn .inv .1) in
+    let cell = entry-cell (a .z) (a .opening .now) (a .log .now) (a .t) (a .list .now) (a .records) (pre .0) (pre .1 .0 .1) (pre .1 .1 .1 .0 .0) (pre .1 .1 .0 .1) (turn .n) (kept-of (turn .kept) (turn .wrote) (turn .read)) (omega arith) (turn .inv .1) (read .result) (read .ensures) in
+    (pre .0, (past, ((omega arith, (omega (arith, pre .1 .0 .0), pre .1 .1 .0 .0)), (cell, (there .if1 .taken, pre .1 .1 .0 .1)))))
 
 returns : tie.Need-returns Inv-loop μ-loop
 returns c =
-    let a = c .before .before .before .before .before .before .before .before .before .before .before .before .args in
-    let pre = c .before .before .before .before .before .before .before .before .before .before .before .before .pre in
-    let turn = c .before .before .before .before .before .before .before .loop in
-    let read = c .before .before .before .before .before .record-at in
-    let whose = c .before .before .before .before .whose in
-    let there = c .before .before .before .position in
+    let listed = c .before .before .before .before in
+    let a = listed .before .before .before .before .before .before .before .before .before .before .args in
+    let pre = listed .before .before .before .before .before .before .before .before .before .before .pre in
+    let turn = listed .before .before .before .before .before .loop in
+    let read = listed .before .before .before .record-at in
+    let whose = listed .before .before .whose in
+    let there = listed .before .position in
     sym
-    (turn-fails (a .z) (a .opening .now) (a .log .now) (a .t) (a .list .now) (a .records) (pre .0) (pre .1 .0 .1) (pre .1 .1 .1 .0 .0) (pre .1 .1 .0 .1) (turn .n) (turn .kept) (omega arith) (turn .inv .1) (pre .1 .1 .1 .1) (pre .1 .1 .1 .0 .1) (read .result) (read .ensures) (whose .result) (there .result)
-    (whose .ensures) (there .ensures) (c .before .before .if1 .taken) (sym (c .before .is-explained .ensures) ∙ not-true _ (c .if2 .taken)))
+    (turn-fails (a .z) (a .opening .now) (a .log .now) (a .t) (a .list .now) (a .records) (pre .0) (pre .1 .0 .1) (pre .1 .1 .1 .0 .0) (pre .1 .1 .0 .1) (turn .n) (kept-of (turn .kept) (turn .wrote) (turn .read)) (omega arith) (turn .inv .1) (pre .1 .1 .1 .1) (pre .1 .1 .1 .0 .1) (read .result) (read .ensures) (whose .result) (there .result)
+    (whose .ensures) (there .ensures) (listed .if1 .taken) (sym (c .before .is-explained .ensures) ∙ not-true _ (c .if2 .taken)))
 
 follow-requires : tie.Need-follow-requires Inv-loop μ-loop
 follow-requires c κs =
-    let a = c .before .before .before .before .before .before .before .before .before .before .args in
-    let pre = c .before .before .before .before .before .before .before .before .before .before .pre in
-    let turn = c .before .before .before .before .before .loop in
-    let read = c .before .before .before .record-at in
-    let cell = entry-cell (a .z) (a .opening .now) (a .log .now) (a .t) (a .list .now) (a .records) (pre .0) (pre .1 .0 .1) (pre .1 .1 .1 .0 .0) (pre .1 .1 .0 .1) (turn .n) (turn .kept) (omega arith) (turn .inv .1) (read .result) (read .ensures) in
-    (pre .0, (pre .1 .1 .0 .1, (entry-place (a .z) (a .opening .now) (a .log .now) (a .t) (a .list .now) (a .records) (pre .0) (pre .1 .0 .1) (pre .1 .1 .1 .0 .0) (pre .1 .1 .0 .1) (turn .n) (turn .kept) (omega arith) (turn .inv .1) (read .result) (read .ensures), cell .within)))
+    let there = c .before .before in
+    let a = there .before .before .before .before .before .before .before .before .before .before .args in
+    let pre = there .before .before .before .before .before .before .before .before .before .before .pre in
+    let turn = there .before .before .before .before .before .loop in
+    let read = there .before .before .before .record-at in
+    let cell = entry-cell (a .z) (a .opening .now) (a .log .now) (a .t) (a .list .now) (a .records) (pre .0) (pre .1 .0 .1) (pre .1 .1 .1 .0 .0) (pre .1 .1 .0 .1) (turn .n) (kept-of (turn .kept) (turn .wrote) (turn .read)) (omega arith) (turn .inv .1) (read .result) (read .ensures) in
+    (pre .0, (pre .1 .1 .0 .1, (entry-place (a .z) (a .opening .now) (a .log .now) (a .t) (a .list .now) (a .records) (pre .0) (pre .1 .0 .1) (pre .1 .1 .1 .0 .0) (pre .1 .1 .0 .1) (turn .n) (kept-of (turn .kept) (turn .wrote) (turn .read)) (omega arith) (turn .inv .1) (read .result) (read .ensures), cell .within)))
 
 loop-less : tie.Need-loop-less Inv-loop μ-loop
 loop-less c = search needs
 
 loop-again : tie.Need-loop-again Inv-loop μ-loop
 loop-again c =
-    let a = c .before .before .before .before .before .before .before .before .before .before .before .args in
-    let pre = c .before .before .before .before .before .before .before .before .before .before .before .pre in
-    let turn = c .before .before .before .before .before .before .loop in
-    let read = c .before .before .before .before .record-at in
-    let whose = c .before .before .before .whose in
-    let there = c .before .before .position in (
+    let asked = c .before .before .before in
+    let a = asked .before .before .before .before .before .before .before .before .before .before .args in
+    let pre = asked .before .before .before .before .before .before .before .before .before .before .pre in
+    let turn = asked .before .before .before .before .before .loop in
+    let read = asked .before .before .before .record-at in
+    let whose = asked .before .before .whose in
+    let there = asked .before .position in (
       omega arith,
       rw (c .follow .ensures)
-          (turn-on (a .z) (a .opening .now) (a .log .now) (a .t) (a .list .now) (a .records) (pre .0) (pre .1 .0 .1) (pre .1 .1 .1 .0 .0) (pre .1 .1 .0 .1) (turn .n) (turn .kept) (omega arith) (turn .inv .1) (pre .1 .1 .1 .0 .1) (read .result) (read .ensures) (whose .result) (there .result) (whose .ensures)
+          (turn-on (a .z) (a .opening .now) (a .log .now) (a .t) (a .list .now) (a .records) (pre .0) (pre .1 .0 .1) (pre .1 .1 .1 .0 .0) (pre .1 .1 .0 .1) (turn .n) (kept-of (turn .kept) (turn .wrote) (turn .read)) (omega arith) (turn .inv .1) (pre .1 .1 .1 .0 .1) (read .result) (read .ensures) (whose .result) (there .result) (whose .ensures)
           (there .ensures)
-          (⊎-elim (λ w h. sym (w .1 .ensures) ∙ not-false _ (w .2 .left)) (λ w h. absurd (omega (arith, w .left))) (c .before .if1 .came))),
+          (⊎-elim (λ w h. sym (w .3 .ensures) ∙ not-false _ (w .4 .left)) (λ w h. absurd (omega (arith, w .left))) (asked .if1 .came))),
     )
 
 is-in-time-requires : tie.Need-is-in-time-requires Inv-loop μ-loop
@@ -100,8 +105,8 @@ returns-2 c =
     let all : end .n ≡ a .records = omega arith in
     c .is-in-time .ensures
     ∙ turn-ends (a .z) (a .opening .now) (a .log .now) (a .t) (a .list .now) (a .records) (pre .0) (pre .1 .0 .1) (pre .1 .1 .1 .0 .0) (pre .1 .1 .0 .1)
-    (end .kept) (pre .1 .1 .1 .1) (pre .1 .1 .1 .0 .1)
-    (subst (λ (i : ℕ). Turn (a .z) (a .opening .now) (a .log .now) (a .t) (a .list .now) i (end .kept)) all (end .inv .1))
+    (kept-of (end .kept) (end .wrote) (end .read)) (pre .1 .1 .1 .1) (pre .1 .1 .1 .0 .1)
+    (subst (λ (i : ℕ). Turn (a .z) (a .opening .now) (a .log .now) (a .t) (a .list .now) i (kept-of (end .kept) (end .wrote) (end .read))) all (end .inv .1))
 
 pub is-replayed-spec : {M : Type 1} → statement M
 is-replayed-spec =

@@ -19,7 +19,7 @@ is-read-explained-requires : tie.Need-is-read-explained-requires
 is-read-explained-requires c κs =
     let start = c .before .before .before .before .before .before .before .before in
     let asked = start .pre .1 .1 in
-    (start .pre .0, (start .pre .1 .0, (search needs, (search needs, (asked .1 .0 .judged-read (c .if2 .taken), search needs)))))
+    (start .pre .0, (start .pre .1 .0 .0, (search needs, (search needs, (asked .1 .0 .judged-read (c .if2 .taken), search needs)))))
 
 returns-2 : tie.Need-returns-2
 returns-2 c =
@@ -31,7 +31,7 @@ is-own-explained-requires : tie.Need-is-own-explained-requires
 is-own-explained-requires c κs =
     let start = c .before .before .before .before .before .before .before .before .before .before in
     let asked = start .pre .1 .1 in
-    (start .pre .0, (start .pre .1 .0, (search needs, (search needs, (asked .1 .0 .own-read (c .if3 .taken), search needs)))))
+    (start .pre .0, (start .pre .1 .0 .1, (search needs, (search needs, (asked .1 .0 .own-read (c .if3 .taken), search needs)))))
 
 returns-3 : tie.Need-returns-3
 returns-3 c =

@@ -21,7 +21,7 @@ element-copy-out-source c = search needs
 is-from-requires : tie.Need-is-from-requires
 is-from-requires c κs =
     let start = c .before .before .before in
-    omega (arith, start .pre, start .pre .1 .0 .1 (mark (start .args .at) (start .args .cell)))
+    omega (arith, start .pre, start .pre .1 .0 (mark (start .args .at) (start .args .cell)))
 
 returns : tie.Need-returns
 unfolding own-explained

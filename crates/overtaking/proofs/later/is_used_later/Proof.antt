@@ -10,23 +10,22 @@ use borrow.Author.Needs.{needs}
 use Rattle.basics.specs.Below.{anyBelow}
 use Rattle.basics.proofs.Below.{any-none, any-skips}
 use Rattle.basics.proofs.Tested.{any-found, none-found}
-use Rattle.replay.specs.declared.state.Replay.{Replay}
-use Rattle.replay.specs.Kept.{mark}
+use Rattle.replay.specs.Kept.{Kept, kept-of, mark}
 use Rattle.overtaking.specs.Later.{used-later}
 use Rattle.overtaking.proofs.later.is_used_later.Statement.{statement}
 use Rattle.overtaking.proofs.later.is_used_later.Tie as tie
 
 -- the one listed at i is later, and has committed the cell or, where reads count, made a judged read of it
-abbrev uses-later : Replay → ℕ → ℕ → Bool → ℕ → Bool
+abbrev uses-later : Kept → ℕ → ℕ → Bool → ℕ → Bool
 uses-later s c at reads i =
     ltb at i
     && ((not (eqb (getD (s .commit) i 0) 0) && not (eqb (getD (s .wrote) (mark i c) 0) 0)) || (reads && getD (s .read) (mark i c) false))
 
 abbrev Inv-loop : tie.InvT-loop
-Inv-loop cell at count reads from i₀ i = (i ≤ count) × (anyBelow (uses-later from cell at reads) i ≡ false)
+Inv-loop wrote read cell at count reads from i₀ i = (i ≤ count) × (anyBelow (uses-later (kept-of from wrote read) cell at reads) i ≡ false)
 
 abbrev μ-loop : tie.MeasureT-loop
-μ-loop cell at count reads from i₀ i = count - i
+μ-loop wrote read cell at count reads from i₀ i = count - i
 
 loop-holds : tie.Need-loop-holds Inv-loop μ-loop
 loop-holds c = (omega arith, any-none _)
@@ -37,17 +36,17 @@ mul-mark c = search needs
 add-mark : tie.Need-add-mark Inv-loop μ-loop
 add-mark c = search needs
 
-mul-wrote : tie.Need-mul-wrote Inv-loop μ-loop
-mul-wrote c = search needs
+mul-committed : tie.Need-mul-committed Inv-loop μ-loop
+mul-committed c = search needs
 
-element-copy-out-wrote : tie.Need-element-copy-out-wrote Inv-loop μ-loop
-element-copy-out-wrote c = search needs
+element-copy-out-committed : tie.Need-element-copy-out-committed Inv-loop μ-loop
+element-copy-out-committed c = search needs
 
-mul-wrote-2 : tie.Need-mul-wrote-2 Inv-loop μ-loop
-mul-wrote-2 c = search needs
+mul-committed-2 : tie.Need-mul-committed-2 Inv-loop μ-loop
+mul-committed-2 c = search needs
 
-element-copy-out-wrote-2 : tie.Need-element-copy-out-wrote-2 Inv-loop μ-loop
-element-copy-out-wrote-2 c = search needs
+element-copy-out-committed-2 : tie.Need-element-copy-out-committed-2 Inv-loop μ-loop
+element-copy-out-committed-2 c = search needs
 
 element-copy-out-if1 : tie.Need-element-copy-out-if1 Inv-loop μ-loop
 element-copy-out-if1 c = search needs
@@ -78,10 +77,10 @@ is-used-later-spec =
     loop-holds
     mul-mark
     add-mark
-    mul-wrote
-    element-copy-out-wrote
-    mul-wrote-2
-    element-copy-out-wrote-2
+    mul-committed
+    element-copy-out-committed
+    mul-committed-2
+    element-copy-out-committed-2
     element-copy-out-if1
     returns
     add-i

@@ -17,8 +17,9 @@ note-requires c κs = search needs
 
 returns : tie.Need-returns
 returns c =
-    let next = c .before .before in
-    c .note .ensures ∙ followed-listed _ _ _ _ _ _ _ (next .before .hold .ensures) (next .timed .ensures) (c .before .if1 .taken)
+    let listed = c .before .before .before in
+    let next = listed .before in
+    c .note .ensures ∙ followed-listed _ _ _ _ _ _ _ (next .before .hold .ensures _ _) (next .timed .ensures _ _) (listed .if1 .taken)
 
 commits-requires : tie.Need-commits-requires
 commits-requires c κs = search needs
@@ -26,13 +27,13 @@ commits-requires c κs = search needs
 returns-2 : tie.Need-returns-2
 returns-2 c =
     let next = c .before .before .before in
-    followed-stranger _ _ _ _ _ _ _ (next .before .hold .ensures) (next .timed .ensures) true
+    followed-stranger _ _ _ _ _ _ _ (next .before .hold .ensures _ _) (next .timed .ensures _ _) true
     (sym (c .if2 .taken) ∙ c .before .commits .ensures) (c .before .before .if1 .left)
 
 returns-3 : tie.Need-returns-3
 returns-3 c =
     let next = c .before .before .before in
-    followed-stranger _ _ _ _ _ _ _ (next .before .hold .ensures) (next .timed .ensures) false
+    followed-stranger _ _ _ _ _ _ _ (next .before .hold .ensures _ _) (next .timed .ensures _ _) false
     (sym (c .if2 .left) ∙ c .before .commits .ensures) (c .before .before .if1 .left)
 
 pub follow-spec : {M : Type 1} → statement M

@@ -17,10 +17,10 @@ element-write-next : tie.Need-element-write-next
 element-write-next c = search needs
 
 returns : tie.Need-returns
-returns c = rw (sym (c .before .starts .ensures) ∙ c .if1 .taken)
+returns c wrote read = rw (sym (c .before .starts .ensures) ∙ c .if1 .taken)
 
 returns-2 : tie.Need-returns-2
-returns-2 c = rw (sym (c .before .starts .ensures) ∙ c .if1 .left)
+returns-2 c wrote read = rw (sym (c .before .starts .ensures) ∙ c .if1 .left)
 
 pub hold-spec : {M : Type 1} → statement M
 hold-spec =

@@ -10,10 +10,10 @@ use Rattle.replay.proofs.state.lay.Statement.{statement}
 use Rattle.replay.proofs.state.lay.Tie as tie
 
 abbrev Inv-loop : tie.InvT-loop
-Inv-loop at z wrote now₀ c₀ now c = (c ≤ z .cells) × (now ≡ laid-below wrote at c now₀)
+Inv-loop wrote at z now₀ c₀ now c = (c ≤ z .cells) × (now ≡ laid-below wrote at c now₀)
 
 abbrev μ-loop : tie.MeasureT-loop
-μ-loop at z wrote now₀ c₀ now c = z .cells - c
+μ-loop wrote at z now₀ c₀ now c = z .cells - c
 
 loop-holds : tie.Need-loop-holds Inv-loop μ-loop
 loop-holds c = (omega arith, laid-none _ _ _)
@@ -27,14 +27,14 @@ add-mark c = search needs
 mul-if2 : tie.Need-mul-if2 Inv-loop μ-loop
 mul-if2 c = search needs
 
-array-read-if2 : tie.Need-array-read-if2 Inv-loop μ-loop
-array-read-if2 c = search needs
+element-copy-out-if2 : tie.Need-element-copy-out-if2 Inv-loop μ-loop
+element-copy-out-if2 c = search needs
 
 mul-now : tie.Need-mul-now Inv-loop μ-loop
 mul-now c = search needs
 
-array-read-now : tie.Need-array-read-now Inv-loop μ-loop
-array-read-now c = search needs
+element-copy-out-now : tie.Need-element-copy-out-now Inv-loop μ-loop
+element-copy-out-now c = search needs
 
 mul-now-2 : tie.Need-mul-now-2 Inv-loop μ-loop
 mul-now-2 c = search needs
@@ -50,9 +50,9 @@ loop-less c = search needs
 
 loop-again : tie.Need-loop-again Inv-loop μ-loop
 loop-again c =
-    let loop = c .before .before .before .loop in (
+    let loop = c .before .before .before .before .loop in (
       omega arith,
-      ⊎-elim (λ w. w .1 ∙ laid-written _ _ _ (loop .c) (loop .inv .1) (w .0 .taken))
+      ⊎-elim (λ w. w .2 ∙ laid-written _ _ _ (loop .c) (loop .inv .1) (w .0 .taken))
           (λ w. w .1 ∙ laid-stays _ _ _ (loop .c) (loop .inv .1) (w .0 .left))
           (c .if2 .came),
     )
@@ -70,9 +70,9 @@ lay-spec =
     mul-mark
     add-mark
     mul-if2
-    array-read-if2
+    element-copy-out-if2
     mul-now
-    array-read-now
+    element-copy-out-now
     mul-now-2
     array-write-now
     add-c

@@ -1,7 +1,6 @@
 -- `replay::state::note` meets its contract, kind by kind. Assumes nothing.
-use mathlib.Core.Path.{_∙_, ap}
+use mathlib.Core.Path.{_∙_}
 use borrow.Author.Needs.{needs}
-use Rattle.replay.specs.Kept.{sealed}
 use Rattle.replay.proofs.Noting.{noted-read, noted-write, noted-commit, noted-post, noted-other}
 use Rattle.replay.proofs.state.note.Statement.{statement}
 use Rattle.replay.proofs.state.note.Tie as tie
@@ -15,28 +14,35 @@ cast-mark c = search needs
 add-mark : tie.Need-add-mark
 add-mark c = search needs
 
-mark-read-requires : tie.Need-mark-read-requires
-mark-read-requires c κs = search needs
+element-write-read : tie.Need-element-write-read
+element-write-read c = search needs
 
 returns : tie.Need-returns
-returns c = c .mark-read .ensures ∙ noted-read _ _ _ _ _ (c .before .if1 .taken)
+returns c = noted-read _ _ _ _ _ (c .if1 .taken)
 
-mark-write-requires : tie.Need-mark-write-requires
-mark-write-requires c κs = search needs
+mul-wrote : tie.Need-mul-wrote
+mul-wrote c = search needs
+
+element-write-wrote : tie.Need-element-write-wrote
+element-write-wrote c = search needs
 
 returns-2 : tie.Need-returns-2
-returns-2 c = c .mark-write .ensures ∙ noted-write _ _ _ _ _ (c .before .before .before .if1 .left) (c .before .if2 .taken)
+returns-2 c = noted-write _ _ _ _ _ (c .before .before .if1 .left) (c .if2 .taken)
 
 seal-requires : tie.Need-seal-requires
 seal-requires c κs = search needs
 
 returns-3 : tie.Need-returns-3
 returns-3 c =
-    let not-write = c .before .before .before in
-    c .seal .ensures ∙ noted-commit _ _ _ _ _ (not-write .before .before .if1 .left) (not-write .if2 .left) (c .before .if3 .taken)
+    let commit = c .before .before in
+    let not-write = commit .before .before in
+    c .seal .ensures _ ∙ noted-commit _ _ _ _ _ (not-write .before .before .if1 .left) (not-write .if2 .left) (commit .if3 .taken)
 
-mark-write-requires-2 : tie.Need-mark-write-requires-2
-mark-write-requires-2 c κs = search needs
+mul-wrote-2 : tie.Need-mul-wrote-2
+mul-wrote-2 c = search needs
+
+element-write-wrote-2 : tie.Need-element-write-wrote-2
+element-write-wrote-2 c = search needs
 
 seal-requires-2 : tie.Need-seal-requires-2
 seal-requires-2 c κs = search needs
@@ -46,9 +52,7 @@ returns-4 c =
     let post = c .before .before in
     let not-commit = post .before .before in
     let not-write = not-commit .before .before in
-    let start = not-write .before .before .before .before .before .args in
-    c .seal2 .ensures
-    ∙ ap (sealed (start .z) (start .n) (start .at)) (c .before .mark-write2 .ensures)
+    c .seal2 .ensures _
     ∙ noted-post _ _ _ _ _ (not-write .before .before .if1 .left) (not-write .if2 .left) (not-commit .if3 .left) (post .if4 .taken)
 
 returns-5 : tie.Need-returns-5
@@ -64,13 +68,15 @@ note-spec =
     mul-mark
     cast-mark
     add-mark
-    mark-read-requires
+    element-write-read
     returns
-    mark-write-requires
+    mul-wrote
+    element-write-wrote
     returns-2
     seal-requires
     returns-3
-    mark-write-requires-2
+    mul-wrote-2
+    element-write-wrote-2
     seal-requires-2
     returns-4
     returns-5)

@@ -13,7 +13,7 @@ lay-requires : tie.Need-lay-requires
 lay-requires c κs = search needs
 
 returns : tie.Need-returns
-returns c = rw (c .lay .ensures)
+returns c read = rw (c .lay .ensures)
 
 pub seal-spec : {M : Type 1} → statement M
 seal-spec = tie.close (tie.spec mul-next element-write-next lay-requires returns)
