@@ -154,16 +154,16 @@ module _ (z : Size) (t : ℕ) (order : List ℕ) (day : List Record) (s : Kept) 
   used c k = committed-cell es k c || read-cell es k c
 
   module _ (c : ℕ) (k : c < z .cells) where
-    used-kept : (reads : Bool) → used-later s c at (length order) reads ≡ any-later (λ j. committed-cell es j c || (reads && read-cell es j c))
+    used-kept : (reads : Bool) → used-later (s .commit) (s .wrote) (s .read) c at (length order) reads ≡ any-later (λ j. committed-cell es j c || (reads && read-cell es j c))
     unfolding used-later committed-cell
     used-kept reads =
         any-cong _ (λ i. ltb at i && (committed-cell es (getD order i 0) c || (reads && read-cell es (getD order i 0) c))) (length order)
         (λ i h. rw (committed-kept i h, wrote-kept i c h k, m .reads i c h k))
 
-    pub written-later-told : used-later s c at (length order) false ≡ any-later (λ j. committed-cell es j c)
+    pub written-later-told : used-later (s .commit) (s .wrote) (s .read) c at (length order) false ≡ any-later (λ j. committed-cell es j c)
     written-later-told = used-kept false ∙ later-cong (λ j. committed-cell es j c || false) (λ j. committed-cell es j c) (λ j. or-false (committed-cell es j c))
 
-    used-later-told : used-later s c at (length order) true ≡ any-later (used c)
+    used-later-told : used-later (s .commit) (s .wrote) (s .read) c at (length order) true ≡ any-later (used c)
     used-later-told = used-kept true
 
   -- ---- who comes to stand before the record's transaction
@@ -210,10 +210,10 @@ module _ (z : Size) (t : ℕ) (order : List ℕ) (day : List Record) (s : Kept) 
       ∙ sym (later-cong (arises z es (event day r)) (committed es) (λ k. arises-as (begin-does (r .kind) q) k ∙ or-false (committed es k)))
 
   -- a commit
-  commit-told : at < length order → r .kind ≡ commit-kind → any-used-later z s at (length order) ≡ any-later (arises z es (event day r))
+  commit-told : at < length order → r .kind ≡ commit-kind → any-used-later z (s .commit) (s .wrote) (s .read) at (length order) ≡ any-later (arises z es (event day r))
   unfolding any-used-later
   commit-told l q =
-      any-cong (λ c. not (eqb (getD (s .wrote) (mark at c) 0) 0) && used-later s c at (length order) true) (λ c. wrote-cell es who c && any-later (used c)) (z .cells)
+      any-cong (λ c. not (eqb (getD (s .wrote) (mark at c) 0) 0) && used-later (s .commit) (s .wrote) (s .read) c at (length order) true) (λ c. wrote-cell es who c && any-later (used c)) (z .cells)
       (λ c h. ap₂ _&&_ (wrote-kept at c l h ∙ ap (λ k. wrote-cell es k c) (position-found order who l)) (used-later-told c h))
       ∙ sym (exchange (ltb at) (wrote-cell es who) (λ i c. used c (getD order i 0)) (length order) (z .cells))
       ∙ sym
@@ -224,7 +224,7 @@ module _ (z : Size) (t : ℕ) (order : List ℕ) (day : List Record) (s : Kept) 
 
   -- a post
   post-told : r .kind ≡ post-kind
-      → committed-later (s .commit) at (length order) || used-later s (r .cell) at (length order) true ≡ any-later (arises z es (event day r))
+      → committed-later (s .commit) at (length order) || used-later (s .commit) (s .wrote) (s .read) (r .cell) at (length order) true ≡ any-later (arises z es (event day r))
   post-told q =
       let c = r .cell in
       let known = walks-fields z r day w .cell-known (post-cell (r .kind) q) in
@@ -242,7 +242,7 @@ module _ (z : Size) (t : ℕ) (order : List ℕ) (day : List Record) (s : Kept) 
 
   -- any kind but a judged read
   pub overtaken-told : at < length order → eqb (r .kind) judged-read-kind ≡ false
-      → overtaken z s (r .kind) (r .cell) at (length order) ≡ any-later (arises z es (event day r))
+      → overtaken z (s .commit) (s .wrote) (s .read) (r .kind) (r .cell) at (length order) ≡ any-later (arises z es (event day r))
   unfolding overtaken
   overtaken-told l n =
       let k = r .kind in

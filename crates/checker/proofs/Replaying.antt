@@ -119,7 +119,7 @@ module _ (z : Size) (t : ℕ) (order : List ℕ) (once : distinct order ≡ true
 
   -- all but the question who is a stranger
   rest-says : cond (eqb (r .kind) judged-read-kind) (read-explained opening log s c (suc (length day)) at (length order))
-      (cond (eqb (r .kind) own-read-kind) (own-explained opening log (s .wrote) c (suc (length day)) at) (not (overtaken z s (r .kind) c at (length order))))
+      (cond (eqb (r .kind) own-read-kind) (own-explained opening log (s .wrote) c (suc (length day)) at) (not (overtaken z (s .commit) (s .wrote) (s .read) (r .kind) c at (length order))))
       ≡ not overtakes && (cond (kind-judged-read (r .kind)) from-table true && cond (kind-own-read (r .kind)) from-own true)
   unfolding kind-judged-read kind-own-read
   rest-says =

@@ -32,7 +32,7 @@ fn is_replayed(opening: &[u8], log: &[u8], records: u16, t: u16, list: &[u16], z
     while n < records {
         let entry = reader::record_at(log, n);
         n += 1;
-        let who = state::whose(kept, entry, n);
+        let who = state::whose(&kept.holder, entry, n);
         let at = lists::position(list, who);
         if at < list.len() {
             if !explain::is_explained(

@@ -34,7 +34,7 @@ module _ (z : Size) (opening log : List ℕ) (s : Kept) (r : Record) (n at count
       kept-explained own =
           rw (answered in-time) (sym (cond-fails _ _ (ne-eqb (r .kind) 2 not-judged) ∙ cond-passes _ _ (eq-eqb (r .kind) 3 own)))
 
-      pub other-explained : (r .kind ≡ 3 → ⊥) → not (overtaken z s (r .kind) (r .cell) at count) ≡ explained z opening log s r n at count named
+      pub other-explained : (r .kind ≡ 3 → ⊥) → not (overtaken z (s .commit) (s .wrote) (s .read) (r .kind) (r .cell) at count) ≡ explained z opening log s r n at count named
       unfolding explained
       other-explained not-own =
           rw (answered in-time) (sym (cond-fails _ _ (ne-eqb (r .kind) 2 not-judged) ∙ cond-fails _ _ (ne-eqb (r .kind) 3 not-own)))

@@ -46,7 +46,7 @@ source opening log w c = cond (eqb w 0) (cell-of opening c) (value-at log w)
 -- a judged read: nobody listed later has committed the cell, and the value is the table's
 unfoldable pub read-explained : List ℕ → List ℕ → Kept → ℕ → ℕ → ℕ → ℕ → Bool
 read-explained opening log s c n at count =
-    not (used-later s c at count false) && same (value-at log n) (source opening log (getD (s .table) c 0) c)
+    not (used-later (s .commit) (s .wrote) (s .read) c at count false) && same (value-at log n) (source opening log (getD (s .table) c 0) c)
 
 -- an own read: the value is that of the transaction's latest write of the cell
 unfoldable pub own-explained : List ℕ → List ℕ → List ℕ → ℕ → ℕ → ℕ → Bool
@@ -57,4 +57,4 @@ unfoldable pub explained : Size → List ℕ → List ℕ → Kept → Record �
 explained z opening log s r n at count named =
     not ((named && sets-moment (r .kind)) && s .stranger)
     && cond (eqb (r .kind) judged-read-kind) (read-explained opening log s (r .cell) n at count)
-    (cond (eqb (r .kind) own-read-kind) (own-explained opening log (s .wrote) (r .cell) n at) (not (overtaken z s (r .kind) (r .cell) at count)))
+    (cond (eqb (r .kind) own-read-kind) (own-explained opening log (s .wrote) (r .cell) n at) (not (overtaken z (s .commit) (s .wrote) (s .read) (r .kind) (r .cell) at count)))

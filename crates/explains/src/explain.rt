@@ -31,7 +31,7 @@ fn is_read_explained(
     requires { ⌜ (length (now opening) ≡ table-bytes z) × ((cell < z .cells) × (count ≤ width)) ⌝ }
     ensures { λ r. ⌜ r ≡ read-explained (now (opening .entry)) (now (log .entry)) (kept-of from (now (wrote .entry)) (now (read .entry))) cell n at count ⌝ }
 {
-    if later::is_used_later(from, wrote, read, cell, at, count, false) {
+    if later::is_used_later(&from.commit, wrote, read, cell, at, count, false) {
         return false;
     }
     let source = from.table[cell];
@@ -91,5 +91,5 @@ pub fn is_explained(
     if entry.kind == 3 {
         return is_own_explained(wrote, opening, log, cell, n, at, z);
     }
-    !later::is_overtaken(from, wrote, read, entry.kind, cell, at, count, z)
+    !later::is_overtaken(&from.commit, wrote, read, entry.kind, cell, at, count, z)
 }

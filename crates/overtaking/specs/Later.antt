@@ -1,4 +1,5 @@
--- Who is listed later than a position, and has already done what would put it before the one that stands there, told on what a replay keeps.
+-- Who is listed later than a position, and has already done what would put it before the one that stands there, told on the commits,
+-- the writes and the judged reads that a replay keeps.
 use Prim.Native.Nat.{ℕ}
 use mathlib.Core.Bool.{Bool, true, false, not, cond, _&&_, _||_}
 use mathlib.Core.List.{List}
@@ -7,28 +8,29 @@ use lib.Dec.{ltb, eqb}
 use Rattle.basics.specs.Below.{anyBelow}
 use Rattle.rules.specs.declared.Size.{Size}
 use Rattle.rules.specs.Daylog.{begin-kind, commit-kind, post-kind}
-use Rattle.replay.specs.Kept.{Kept, mark}
+use Rattle.replay.specs.Kept.{mark}
 
 -- somebody who has committed
 unfoldable pub committed-later : List ℕ → ℕ → ℕ → Bool
 committed-later commit at count = anyBelow (λ i. ltb at i && not (eqb (getD commit i 0) 0)) count
 
 -- somebody who has committed the cell or, where reads count, made a judged read of it
-unfoldable pub used-later : Kept → ℕ → ℕ → ℕ → Bool → Bool
-used-later s c at count reads =
+unfoldable pub used-later : List ℕ → List ℕ → List Bool → ℕ → ℕ → ℕ → Bool → Bool
+used-later commit wrote read c at count reads =
     anyBelow
     (λ i.
     ltb at i
-    && ((not (eqb (getD (s .commit) i 0) 0) && not (eqb (getD (s .wrote) (mark i c) 0) 0)) || (reads && getD (s .read) (mark i c) false)))
+    && ((not (eqb (getD commit i 0) 0) && not (eqb (getD wrote (mark i c) 0) 0)) || (reads && getD read (mark i c) false)))
     count
 
 -- somebody who has used one of the cells that the one at the position has written
-unfoldable pub any-used-later : Size → Kept → ℕ → ℕ → Bool
-any-used-later z s at count = anyBelow (λ c. not (eqb (getD (s .wrote) (mark at c) 0) 0) && used-later s c at count true) (z .cells)
+unfoldable pub any-used-later : Size → List ℕ → List ℕ → List Bool → ℕ → ℕ → Bool
+any-used-later z commit wrote read at count =
+    anyBelow (λ c. not (eqb (getD wrote (mark at c) 0) 0) && used-later commit wrote read c at count true) (z .cells)
 
 -- with a record of the kind, somebody who comes to stand before the one at the position
-unfoldable pub overtaken : Size → Kept → ℕ → ℕ → ℕ → ℕ → Bool
-overtaken z s kind c at count =
-    cond (eqb kind begin-kind) (committed-later (s .commit) at count)
-    (cond (eqb kind commit-kind) (any-used-later z s at count)
-    (cond (eqb kind post-kind) (committed-later (s .commit) at count || used-later s c at count true) false))
+unfoldable pub overtaken : Size → List ℕ → List ℕ → List Bool → ℕ → ℕ → ℕ → ℕ → Bool
+overtaken z commit wrote read kind c at count =
+    cond (eqb kind begin-kind) (committed-later commit at count)
+    (cond (eqb kind commit-kind) (any-used-later z commit wrote read at count)
+    (cond (eqb kind post-kind) (committed-later commit at count || used-later commit wrote read c at count true) false))

@@ -1,20 +1,19 @@
-// Who is listed later than a position, and has already done what would put it before the one that stands there.
+// Who is listed later than a position, and has already done what would put it before the one that stands there. It is told by what a replay
+// keeps of each position: its commit record, its latest write of each cell, and whether it made a judged read of it.
 ghost use mathlib.Core.Path.{_≡_};
 ghost use Prim.Native.Nat.{_<_, _≤_};
 ghost use Rattle.rules.specs.Sizes.{Within, width};
-ghost use Rattle.replay.specs.Kept.{kept-of};
 ghost use Rattle.overtaking.specs.Later.{committed-later, used-later, any-used-later, overtaken};
-use replay::state::Replay;
 use rules::Size;
 
 // Somebody listed later has committed.
-pub fn is_committed_later(from: Replay, at: usize, count: usize) -> bool
+pub fn is_committed_later(commit: &[u16; 32], at: usize, count: usize) -> bool
     requires { ⌜ count ≤ width ⌝ }
-    ensures { λ r. ⌜ r ≡ committed-later (from .commit) at count ⌝ }
+    ensures { λ r. ⌜ r ≡ committed-later (now (commit .entry)) at count ⌝ }
 {
     let mut i = 0;
     while i < count {
-        if (at < i) & (from.commit[i] != 0) {
+        if (at < i) & (commit[i] != 0) {
             return true;
         }
         i += 1;
@@ -24,7 +23,7 @@ pub fn is_committed_later(from: Replay, at: usize, count: usize) -> bool
 
 // Somebody listed later has committed the cell or, where reads count, made a judged read of it.
 pub fn is_used_later(
-    from: Replay,
+    commit: &[u16; 32],
     wrote: &[u16; 1024],
     read: &[bool; 1024],
     cell: usize,
@@ -33,12 +32,12 @@ pub fn is_used_later(
     reads: bool,
 ) -> bool
     requires { ⌜ (count ≤ width) × (cell < width) ⌝ }
-    ensures { λ r. ⌜ r ≡ used-later (kept-of from (now (wrote .entry)) (now (read .entry))) cell at count reads ⌝ }
+    ensures { λ r. ⌜ r ≡ used-later (now (commit .entry)) (now (wrote .entry)) (now (read .entry)) cell at count reads ⌝ }
 {
     let mut i = 0;
     while i < count {
         let mark = 32 * i + cell;
-        let committed = (from.commit[i] != 0) & (wrote[mark] != 0);
+        let committed = (commit[i] != 0) & (wrote[mark] != 0);
         if (at < i) & (committed | (reads & read[mark])) {
             return true;
         }
@@ -49,7 +48,7 @@ pub fn is_used_later(
 
 // Somebody listed later has used one of the cells that the one at the position has written.
 pub fn is_any_used_later(
-    from: Replay,
+    commit: &[u16; 32],
     wrote: &[u16; 1024],
     read: &[bool; 1024],
     at: usize,
@@ -58,12 +57,12 @@ pub fn is_any_used_later(
 ) -> bool
     requires { ⌜ Within z ⌝ }
     requires { ⌜ (count ≤ width) × (at < width) ⌝ }
-    ensures { λ r. ⌜ r ≡ any-used-later z (kept-of from (now (wrote .entry)) (now (read .entry))) at count ⌝ }
+    ensures { λ r. ⌜ r ≡ any-used-later z (now (commit .entry)) (now (wrote .entry)) (now (read .entry)) at count ⌝ }
 {
     let mut c = 0;
     while c < z.cells {
         let mark = 32 * at + c;
-        if (wrote[mark] != 0) & is_used_later(from, wrote, read, c, at, count, true) {
+        if (wrote[mark] != 0) & is_used_later(commit, wrote, read, c, at, count, true) {
             return true;
         }
         c += 1;
@@ -73,7 +72,7 @@ pub fn is_any_used_later(
 
 // With a record that starts or commits, somebody listed later comes to stand before its transaction.
 pub fn is_overtaken(
-    from: Replay,
+    commit: &[u16; 32],
     wrote: &[u16; 1024],
     read: &[bool; 1024],
     kind: u8,
@@ -84,17 +83,17 @@ pub fn is_overtaken(
 ) -> bool
     requires { ⌜ Within z ⌝ }
     requires { ⌜ (count ≤ width) × ((at < width) × (cell < width)) ⌝ }
-    ensures { λ r. ⌜ r ≡ overtaken z (kept-of from (now (wrote .entry)) (now (read .entry))) kind cell at count ⌝ }
+    ensures { λ r. ⌜ r ≡ overtaken z (now (commit .entry)) (now (wrote .entry)) (now (read .entry)) kind cell at count ⌝ }
 {
     if kind == 1 {
-        return is_committed_later(from, at, count);
+        return is_committed_later(commit, at, count);
     }
     if kind == 5 {
-        return is_any_used_later(from, wrote, read, at, count, z);
+        return is_any_used_later(commit, wrote, read, at, count, z);
     }
     if kind == 9 {
-        return is_committed_later(from, at, count)
-            | is_used_later(from, wrote, read, cell, at, count, true);
+        return is_committed_later(commit, at, count)
+            | is_used_later(commit, wrote, read, cell, at, count, true);
     }
     false
 }

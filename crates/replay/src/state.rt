@@ -37,15 +37,15 @@ pub fn fresh(t: u16) -> Replay
 }
 
 // Whose record number n is: of the transaction that it starts, else of the one that holds its place.
-pub fn whose(from: Replay, entry: Record, n: u16) -> u16
+pub fn whose(holder: &[u16; 32], entry: Record, n: u16) -> u16
     requires { ⌜ entry .place < width ⌝ }
-    ensures { λ r. ⌜ r ≡ whose-kept (from .holder) entry n ⌝ }
+    ensures { λ r. ⌜ r ≡ whose-kept (now (holder .entry)) entry n ⌝ }
 {
     let p = entry.place as usize;
     if kinds::starts(entry.kind) {
         return n;
     }
-    from.holder[p]
+    holder[p]
 }
 
 // A record that starts a transaction gives it the place.

@@ -1,6 +1,6 @@
 -- `checker::order::is_replayed` meets its contract. The loop's invariant: what is kept mirrors the first n records, and each of them is
 -- explained. Assumes nothing.
-use Prim.Native.Nat.{ℕ, _-_, _≤_}
+use Prim.Native.Nat.{ℕ, _-_, _≤_, _<_}
 use mathlib.Core.Path.{_≡_, sym, _∙_, subst}
 use mathlib.Core.Logic.{⊎-elim}
 use native.Mathlib.Omega.{arith}
@@ -33,47 +33,47 @@ add-n c = search needs
 
 whose-requires : tie.Need-whose-requires Inv-loop μ-loop
 whose-requires c κs =
-    let a = c .before .before .before .before .before .before .before .args in
-    let pre = c .before .before .before .before .before .before .before .pre in
-    let turn = c .before .before .loop in
-    entry-place (a .z) (a .opening .now) (a .log .now) (a .t) (a .list .now) (a .records) (pre .0) (pre .1 .0 .1) (pre .1 .1 .1 .0 .0) (pre .1 .1 .0 .1) (turn .n) (kept-of (turn .kept) (turn .wrote) (turn .read)) (omega arith) (turn .inv .1) (c .record-at .result) (c .record-at .ensures)
+    let read = c .before .before in
+    let turn = read .before .before .loop in
+    let start = read .before .before .before .before .before .before .before in
+    let below : turn .n < start .args .records = omega arith in
+    entry-place _ _ _ _ _ _ (start .pre .0) (start .pre .1 .0 .1) (start .pre .1 .1 .1 .0 .0) (start .pre .1 .1 .0 .1) _ _ below (turn .inv .1) _ (read .record-at .ensures)
 
 position-requires : tie.Need-position-requires Inv-loop μ-loop
 position-requires c κs = search needs
 
 is-explained-requires : tie.Need-is-explained-requires Inv-loop μ-loop
 is-explained-requires c κs =
-    let there = c .before .before in
-    let a = there .before .before .before .before .before .before .before .before .before .before .args in
-    let pre = there .before .before .before .before .before .before .before .before .before .before .pre in
-    let turn = there .before .before .before .before .before .loop in
-    let read = there .before .before .before .record-at in
-    let past = past-only (a .z) (a .opening .now) (a .log .now) (a .t) (a .list .now) (a .records) (pre .0) (pre .1 .0 .1) (pre .1 .1 .1 .0 .0) (pre .1 .1 .0 .1) (turn .n) (kept-of (turn .kept) (turn .wrote) (turn .read)) (omega arith) (turn .inv .1) in
-    let cell = entry-cell (a .z) (a .opening .now) (a .log .now) (a .t) (a .list .now) (a .records) (pre .0) (pre .1 .0 .1) (pre .1 .1 .1 .0 .0) (pre .1 .1 .0 .1) (turn .n) (kept-of (turn .kept) (turn .wrote) (turn .read)) (omega arith) (turn .inv .1) (read .result) (read .ensures) in
-    (pre .0, (past, ((omega arith, (omega (arith, pre .1 .0 .0), pre .1 .1 .0 .0)), (cell, (there .if1 .taken, pre .1 .1 .0 .1)))))
+    let listed = c .before .before in
+    let read = listed .before .before .before .before .before in
+    let turn = read .before .before .loop in
+    let start = read .before .before .before .before .before .before .before in
+    let below : turn .n < start .args .records = omega arith in
+    let past = past-only _ _ _ _ _ _ (start .pre .0) (start .pre .1 .0 .1) (start .pre .1 .1 .1 .0 .0) (start .pre .1 .1 .0 .1) _ _ below (turn .inv .1) in
+    let cell = entry-cell _ _ _ _ _ _ (start .pre .0) (start .pre .1 .0 .1) (start .pre .1 .1 .1 .0 .0) (start .pre .1 .1 .0 .1) _ _ below (turn .inv .1) _ (read .record-at .ensures) in
+    (start .pre .0, (past, ((omega arith, (omega (arith, start .pre .1 .0 .0), start .pre .1 .1 .0 .0)), (cell, (listed .if1 .taken, start .pre .1 .1 .0 .1)))))
 
 returns : tie.Need-returns Inv-loop μ-loop
 returns c =
     let listed = c .before .before .before .before in
-    let a = listed .before .before .before .before .before .before .before .before .before .before .args in
-    let pre = listed .before .before .before .before .before .before .before .before .before .before .pre in
-    let turn = listed .before .before .before .before .before .loop in
-    let read = listed .before .before .before .record-at in
-    let whose = listed .before .before .whose in
-    let there = listed .before .position in
+    let read = listed .before .before .before .before .before in
+    let turn = read .before .before .loop in
+    let start = read .before .before .before .before .before .before .before in
+    let below : turn .n < start .args .records = omega arith in
     sym
-    (turn-fails (a .z) (a .opening .now) (a .log .now) (a .t) (a .list .now) (a .records) (pre .0) (pre .1 .0 .1) (pre .1 .1 .1 .0 .0) (pre .1 .1 .0 .1) (turn .n) (kept-of (turn .kept) (turn .wrote) (turn .read)) (omega arith) (turn .inv .1) (pre .1 .1 .1 .1) (pre .1 .1 .1 .0 .1) (read .result) (read .ensures) (whose .result) (there .result)
-    (whose .ensures) (there .ensures) (listed .if1 .taken) (sym (c .before .is-explained .ensures) ∙ not-true _ (c .if2 .taken)))
+    (turn-fails _ _ _ _ _ _ (start .pre .0) (start .pre .1 .0 .1) (start .pre .1 .1 .1 .0 .0) (start .pre .1 .1 .0 .1) _ _ below (turn .inv .1)
+    (start .pre .1 .1 .1 .1) (start .pre .1 .1 .1 .0 .1) _ (read .record-at .ensures) _ _ (listed .before .before .whose .ensures) (listed .before .position .ensures)
+    (listed .if1 .taken) (sym (c .before .is-explained .ensures) ∙ not-true _ (c .if2 .taken)))
 
 follow-requires : tie.Need-follow-requires Inv-loop μ-loop
 follow-requires c κs =
-    let there = c .before .before in
-    let a = there .before .before .before .before .before .before .before .before .before .before .args in
-    let pre = there .before .before .before .before .before .before .before .before .before .before .pre in
-    let turn = there .before .before .before .before .before .loop in
-    let read = there .before .before .before .record-at in
-    let cell = entry-cell (a .z) (a .opening .now) (a .log .now) (a .t) (a .list .now) (a .records) (pre .0) (pre .1 .0 .1) (pre .1 .1 .1 .0 .0) (pre .1 .1 .0 .1) (turn .n) (kept-of (turn .kept) (turn .wrote) (turn .read)) (omega arith) (turn .inv .1) (read .result) (read .ensures) in
-    (pre .0, (pre .1 .1 .0 .1, (entry-place (a .z) (a .opening .now) (a .log .now) (a .t) (a .list .now) (a .records) (pre .0) (pre .1 .0 .1) (pre .1 .1 .1 .0 .0) (pre .1 .1 .0 .1) (turn .n) (kept-of (turn .kept) (turn .wrote) (turn .read)) (omega arith) (turn .inv .1) (read .result) (read .ensures), cell .within)))
+    let read = c .before .before .before .before .before .before .before in
+    let turn = read .before .before .loop in
+    let start = read .before .before .before .before .before .before .before in
+    let below : turn .n < start .args .records = omega arith in
+    let place = entry-place _ _ _ _ _ _ (start .pre .0) (start .pre .1 .0 .1) (start .pre .1 .1 .1 .0 .0) (start .pre .1 .1 .0 .1) _ _ below (turn .inv .1) _ (read .record-at .ensures) in
+    let cell = entry-cell _ _ _ _ _ _ (start .pre .0) (start .pre .1 .0 .1) (start .pre .1 .1 .1 .0 .0) (start .pre .1 .1 .0 .1) _ _ below (turn .inv .1) _ (read .record-at .ensures) in
+    (start .pre .0, (start .pre .1 .1 .0 .1, (place, cell .within)))
 
 loop-less : tie.Need-loop-less Inv-loop μ-loop
 loop-less c = search needs
@@ -81,16 +81,14 @@ loop-less c = search needs
 loop-again : tie.Need-loop-again Inv-loop μ-loop
 loop-again c =
     let asked = c .before .before .before in
-    let a = asked .before .before .before .before .before .before .before .before .before .before .args in
-    let pre = asked .before .before .before .before .before .before .before .before .before .before .pre in
-    let turn = asked .before .before .before .before .before .loop in
-    let read = asked .before .before .before .record-at in
-    let whose = asked .before .before .whose in
-    let there = asked .before .position in (
+    let read = asked .before .before .before .before .before in
+    let turn = read .before .before .loop in
+    let start = read .before .before .before .before .before .before .before in
+    let below : turn .n < start .args .records = omega arith in (
       omega arith,
       rw (c .follow .ensures)
-          (turn-on (a .z) (a .opening .now) (a .log .now) (a .t) (a .list .now) (a .records) (pre .0) (pre .1 .0 .1) (pre .1 .1 .1 .0 .0) (pre .1 .1 .0 .1) (turn .n) (kept-of (turn .kept) (turn .wrote) (turn .read)) (omega arith) (turn .inv .1) (pre .1 .1 .1 .0 .1) (read .result) (read .ensures) (whose .result) (there .result) (whose .ensures)
-          (there .ensures)
+          (turn-on _ _ _ _ _ _ (start .pre .0) (start .pre .1 .0 .1) (start .pre .1 .1 .1 .0 .0) (start .pre .1 .1 .0 .1) _ _ below (turn .inv .1)
+          (start .pre .1 .1 .1 .0 .1) _ (read .record-at .ensures) _ _ (asked .before .before .whose .ensures) (asked .before .position .ensures)
           (⊎-elim (λ w h. sym (w .3 .ensures) ∙ not-false _ (w .4 .left)) (λ w h. absurd (omega (arith, w .left))) (asked .if1 .came))),
     )
 

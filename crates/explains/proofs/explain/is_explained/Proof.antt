@@ -13,11 +13,11 @@ sets-moment-requires : tie.Need-sets-moment-requires
 sets-moment-requires c κs = search needs
 
 returns : tie.Need-returns
-returns c = late-explained _ _ _ _ _ _ _ _ _ (c .before .before .sets-moment .ensures) (c .if1 .taken)
+returns c = late-explained _ _ _ _ _ _ _ _ _ (c .before .sets-moment .ensures) (c .if1 .taken)
 
 is-read-explained-requires : tie.Need-is-read-explained-requires
 is-read-explained-requires c κs =
-    let start = c .before .before .before .before .before .before .before .before in
+    let start = c .before .before .before .before .before .before .before in
     let asked = start .pre .1 .1 in
     (start .pre .0, (start .pre .1 .0 .0, (search needs, (search needs, (asked .1 .0 .judged-read (c .if2 .taken), search needs)))))
 
@@ -25,11 +25,11 @@ returns-2 : tie.Need-returns-2
 returns-2 c =
     let late = c .before .before .before in
     c .is-read-explained .ensures
-    ∙ judged-explained _ _ _ _ _ _ _ _ _ (late .before .before .sets-moment .ensures) (late .if1 .left) (c .before .if2 .taken)
+    ∙ judged-explained _ _ _ _ _ _ _ _ _ (late .before .sets-moment .ensures) (late .if1 .left) (c .before .if2 .taken)
 
 is-own-explained-requires : tie.Need-is-own-explained-requires
 is-own-explained-requires c κs =
-    let start = c .before .before .before .before .before .before .before .before .before .before in
+    let start = c .before .before .before .before .before .before .before .before .before in
     let asked = start .pre .1 .1 in
     (start .pre .0, (start .pre .1 .0 .1, (search needs, (search needs, (asked .1 .0 .own-read (c .if3 .taken), search needs)))))
 
@@ -38,17 +38,18 @@ returns-3 c =
     let not-judged = c .before .before .before in
     let late = not-judged .before .before in
     c .is-own-explained .ensures
-    ∙ kept-explained _ _ _ _ _ _ _ _ _ (late .before .before .sets-moment .ensures) (late .if1 .left) (not-judged .if2 .left) (c .before .if3 .taken)
+    ∙ kept-explained _ _ _ _ _ _ _ _ _ (late .before .sets-moment .ensures) (late .if1 .left) (not-judged .if2 .left) (c .before .if3 .taken)
 
 is-overtaken-requires : tie.Need-is-overtaken-requires
 is-overtaken-requires c κs = search needs
 
 returns-4 : tie.Need-returns-4
 returns-4 c =
-    let not-judged = c .before .before .before in
+    let not-own = c .before .before .before in
+    let not-judged = not-own .before .before in
     let late = not-judged .before .before in
     ap not (c .is-overtaken .ensures)
-    ∙ other-explained _ _ _ _ _ _ _ _ _ (late .before .before .sets-moment .ensures) (late .if1 .left) (not-judged .if2 .left) (c .before .if3 .left)
+    ∙ other-explained _ _ _ _ _ _ _ _ _ (late .before .sets-moment .ensures) (late .if1 .left) (not-judged .if2 .left) (not-own .if3 .left)
 
 pub is-explained-spec : {M : Type 1} → statement M
 is-explained-spec =

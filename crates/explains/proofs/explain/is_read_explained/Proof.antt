@@ -21,7 +21,7 @@ element-copy-out-source c = search needs
 
 is-from-requires : tie.Need-is-from-requires
 is-from-requires c κs =
-    let start = c .before .before .before .before .before in
+    let start = c .before .before .before .before .before .before .before in
     omega (arith, start .pre, start .pre .1 .0 (start .args .cell))
 
 returns-2 : tie.Need-returns-2

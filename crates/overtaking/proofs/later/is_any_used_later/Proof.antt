@@ -3,6 +3,7 @@
 use Prim.Native.Nat.{ℕ, _≤_, _-_}
 use mathlib.Core.Path.{_≡_, sym}
 use mathlib.Core.Bool.{Bool, true, false, not, _&&_}
+use mathlib.Core.List.{List}
 use native.Mathlib.Omega.{arith}
 use lib.Dec.{eqb}
 use lib.ListN.{getD}
@@ -11,25 +12,25 @@ use borrow.Author.Needs.{needs}
 use Rattle.basics.specs.Below.{anyBelow}
 use Rattle.basics.proofs.Below.{any-none, any-skips}
 use Rattle.basics.proofs.Tested.{any-found, none-found}
-use Rattle.replay.specs.Kept.{Kept, kept-of, mark}
+use Rattle.replay.specs.Kept.{mark}
 use Rattle.overtaking.specs.Later.{used-later, any-used-later}
 use Rattle.overtaking.proofs.later.is_any_used_later.Statement.{statement}
 use Rattle.overtaking.proofs.later.is_any_used_later.Tie as tie
 
 -- the one at the position has written the cell, and somebody listed later has used it
-abbrev wrote-used : Kept → ℕ → ℕ → ℕ → Bool
-wrote-used s at count c = not (eqb (getD (s .wrote) (mark at c) 0) 0) && used-later s c at count true
+abbrev wrote-used : List ℕ → List ℕ → List Bool → ℕ → ℕ → ℕ → Bool
+wrote-used commit wrote read at count c = not (eqb (getD wrote (mark at c) 0) 0) && used-later commit wrote read c at count true
 
 -- so the answer about the cell, with the test before it, says
-answer-used : (s : Kept) (at count c : ℕ) {r x : Bool} → r ≡ used-later s c at count true → not (eqb (getD (s .wrote) (mark at c) 0) 0) && r ≡ x
-    → wrote-used s at count c ≡ x
-answer-used s at count c e t = rw (sym e) t
+answer-used : (commit wrote : List ℕ) (read : List Bool) (at count c : ℕ) {r x : Bool} → r ≡ used-later commit wrote read c at count true → not (eqb (getD wrote (mark at c) 0) 0) && r ≡ x
+    → wrote-used commit wrote read at count c ≡ x
+answer-used commit wrote read at count c e t = rw (sym e) t
 
 abbrev Inv-loop : tie.InvT-loop
-Inv-loop from wrote read at count z c₀ c = (c ≤ z .cells) × (anyBelow (wrote-used (kept-of from wrote read) at count) c ≡ false)
+Inv-loop commit wrote read at count z c₀ c = (c ≤ z .cells) × (anyBelow (wrote-used commit wrote read at count) c ≡ false)
 
 abbrev μ-loop : tie.MeasureT-loop
-μ-loop from wrote read at count z c₀ c = z .cells - c
+μ-loop commit wrote read at count z c₀ c = z .cells - c
 
 loop-holds : tie.Need-loop-holds Inv-loop μ-loop
 loop-holds c = (omega arith, any-none _)
@@ -54,7 +55,7 @@ unfolding any-used-later
 returns c =
     let turn = c .before .before .before in
     let start = turn .before .before .before .args in
-    any-found _ _ _ (turn .if1 .taken) (answer-used (kept-of (start .from) (now (start .wrote)) (now (start .read))) (start .at) (start .count) _ (c .before .is-used-later .ensures) (c .if2 .taken))
+    any-found _ _ _ (turn .if1 .taken) (answer-used (now (start .commit)) (now (start .wrote)) (now (start .read)) (start .at) (start .count) _ (c .before .is-used-later .ensures) (c .if2 .taken))
 
 add-c : tie.Need-add-c Inv-loop μ-loop
 add-c c = search needs
@@ -68,7 +69,7 @@ loop-again c =
     let start = turn .before .before .before .args in (
       omega arith,
       any-skips _ _ (turn .before .before .loop .inv .1)
-          (answer-used (kept-of (start .from) (now (start .wrote)) (now (start .read))) (start .at) (start .count) _ (c .before .is-used-later .ensures) (c .if2 .left)),
+          (answer-used (now (start .commit)) (now (start .wrote)) (now (start .read)) (start .at) (start .count) _ (c .before .is-used-later .ensures) (c .if2 .left)),
     )
 
 returns-2 : tie.Need-returns-2 Inv-loop μ-loop

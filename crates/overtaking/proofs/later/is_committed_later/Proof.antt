@@ -15,10 +15,10 @@ use Rattle.overtaking.proofs.later.is_committed_later.Statement.{statem
 use Rattle.overtaking.proofs.later.is_committed_later.Tie as tie
 
 abbrev Inv-loop : tie.InvT-loop
-Inv-loop at count from i₀ i = (i ≤ count) × (anyBelow (λ j. ltb at j && not (eqb (getD (from .commit) j 0) 0)) i ≡ false)
+Inv-loop commit at count i₀ i = (i ≤ count) × (anyBelow (λ j. ltb at j && not (eqb (getD commit j 0) 0)) i ≡ false)
 
 abbrev μ-loop : tie.MeasureT-loop
-μ-loop at count from i₀ i = count - i
+μ-loop commit at count i₀ i = count - i
 
 loop-holds : tie.Need-loop-holds Inv-loop μ-loop
 loop-holds c = (omega arith, any-none _)

@@ -3,6 +3,7 @@
 use Prim.Native.Nat.{ℕ, _≤_, _-_}
 use mathlib.Core.Path.{_≡_}
 use mathlib.Core.Bool.{Bool, false, not, _&&_, _||_}
+use mathlib.Core.List.{List}
 use native.Mathlib.Omega.{arith}
 use lib.Dec.{eqb, ltb}
 use lib.ListN.{getD}
@@ -10,22 +11,22 @@ use borrow.Author.Needs.{needs}
 use Rattle.basics.specs.Below.{anyBelow}
 use Rattle.basics.proofs.Below.{any-none, any-skips}
 use Rattle.basics.proofs.Tested.{any-found, none-found}
-use Rattle.replay.specs.Kept.{Kept, kept-of, mark}
+use Rattle.replay.specs.Kept.{mark}
 use Rattle.overtaking.specs.Later.{used-later}
 use Rattle.overtaking.proofs.later.is_used_later.Statement.{statement}
 use Rattle.overtaking.proofs.later.is_used_later.Tie as tie
 
 -- the one listed at i is later, and has committed the cell or, where reads count, made a judged read of it
-abbrev uses-later : Kept → ℕ → ℕ → Bool → ℕ → Bool
-uses-later s c at reads i =
+abbrev uses-later : List ℕ → List ℕ → List Bool → ℕ → ℕ → Bool → ℕ → Bool
+uses-later commit wrote read c at reads i =
     ltb at i
-    && ((not (eqb (getD (s .commit) i 0) 0) && not (eqb (getD (s .wrote) (mark i c) 0) 0)) || (reads && getD (s .read) (mark i c) false))
+    && ((not (eqb (getD commit i 0) 0) && not (eqb (getD wrote (mark i c) 0) 0)) || (reads && getD read (mark i c) false))
 
 abbrev Inv-loop : tie.InvT-loop
-Inv-loop wrote read cell at count reads from i₀ i = (i ≤ count) × (anyBelow (uses-later (kept-of from wrote read) cell at reads) i ≡ false)
+Inv-loop commit wrote read cell at count reads i₀ i = (i ≤ count) × (anyBelow (uses-later commit wrote read cell at reads) i ≡ false)
 
 abbrev μ-loop : tie.MeasureT-loop
-μ-loop wrote read cell at count reads from i₀ i = count - i
+μ-loop commit wrote read cell at count reads i₀ i = count - i
 
 loop-holds : tie.Need-loop-holds Inv-loop μ-loop
 loop-holds c = (omega arith, any-none _)
