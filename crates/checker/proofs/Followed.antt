@@ -25,7 +25,6 @@ use Rattle.explains.specs.Explained.{PastOnly}
 use Rattle.checker.proofs.Arrays.{getD-set, set-bounded, mark-only, mark-within, laid-length, laid-bounded, laid-at}
 use Rattle.listing.proofs.Positions.{position-found, position-member, position-only}
 use Rattle.checker.proofs.Mirrored.{latest-write, table-record, Mirrors, walks-fields, wrote-told}
-use Rattle.checker.proofs.Changed.{Follows, followed-follows}
 
 -- ---- tests
 
@@ -98,136 +97,134 @@ module _ (z : Size) (t : ℕ) (order : List ℕ) (within : Within z) (once : dis
   listed-there : (i : ℕ) → i < length order → eqb i at ≡ true → listed ≡ true
   listed-there i h e = lt-ltb at (length order) (omega (arith, eqb-true i at e))
 
-  module _ (s′ : Kept) (f : Follows z n r at listed (eqb who t) s s′) where
-    -- by place
-    holders-more : (p : ℕ) → p < z .places → 1 ≤ seat (r ∷ day) p .status → getD (s′ .holder) p 0 ≡ seat (r ∷ day) p .begin
-    unfolding kind-starts
-    holders-more p h =
-        rw (f .on-holder)
-        (seat-by r day p (λ (q : Seat). 1 ≤ q .status → getD (holder-after n r (s .holder)) p 0 ≡ q .begin)
-        (λ other k. elsewhere other ∙ m .holders p h k) λ here.
-        record {
-          on-begin = λ k l. starting here (ap kind-starts k);
-          on-post = λ k l. starting here (ap kind-starts k);
-          on-write = λ k l. going-on (ap kind-starts k) ∙ m .holders p h l;
-          on-commit = λ k l. going-on (ap kind-starts k) ∙ m .holders p h (live here (ap kind-starts k));
-          on-free = λ k l. absurd (omega arith);
-          on-quiet = λ q k l. going-on (q .0) ∙ m .holders p h l;
-        })
-      where
-        elsewhere : (r .place ≡ p → ⊥) → getD (holder-after n r (s .holder)) p 0 ≡ getD (s .holder) p 0
-        elsewhere other =
-            split (kind-starts (r .kind)) (λ k. rw k (getD-set-other (s .holder) (r .place) p n 0 (λ q. other (sym q)))) (λ k. rw k)
+  -- what is kept behind it
+  abbrev s′ : Kept
+  s′ = followed z n r at (length order) (eqb who t) s
 
-        starting : r .place ≡ p → kind-starts (r .kind) ≡ true → getD (holder-after n r (s .holder)) p 0 ≡ n
-        starting here k =
-            rw k (ap (λ i. getD (set (s .holder) i n) p 0) here ∙ getD-set-same (s .holder) p n 0 (omega (arith, m .holder-length, within .places)))
+  -- by place
+  holders-more : (p : ℕ) → p < z .places → 1 ≤ seat (r ∷ day) p .status → getD (s′ .holder) p 0 ≡ seat (r ∷ day) p .begin
+  unfolding followed kind-starts
+  holders-more p h =
+      seat-by r day p (λ (q : Seat). 1 ≤ q .status → getD (holder-after n r (s .holder)) p 0 ≡ q .begin)
+      (λ other k. elsewhere other ∙ m .holders p h k) λ here.
+      record {
+        on-begin = λ k l. starting here (ap kind-starts k);
+        on-post = λ k l. starting here (ap kind-starts k);
+        on-write = λ k l. going-on (ap kind-starts k) ∙ m .holders p h l;
+        on-commit = λ k l. going-on (ap kind-starts k) ∙ m .holders p h (live here (ap kind-starts k));
+        on-free = λ k l. absurd (omega arith);
+        on-quiet = λ q k l. going-on (q .0) ∙ m .holders p h l;
+      }
+    where
+      elsewhere : (r .place ≡ p → ⊥) → getD (holder-after n r (s .holder)) p 0 ≡ getD (s .holder) p 0
+      elsewhere other =
+          split (kind-starts (r .kind)) (λ k. rw k (getD-set-other (s .holder) (r .place) p n 0 (λ q. other (sym q)))) (λ k. rw k)
 
-        going-on : kind-starts (r .kind) ≡ false → getD (holder-after n r (s .holder)) p 0 ≡ getD (s .holder) p 0
-        going-on k = rw k
+      starting : r .place ≡ p → kind-starts (r .kind) ≡ true → getD (holder-after n r (s .holder)) p 0 ≡ n
+      starting here k =
+          rw k (ap (λ i. getD (set (s .holder) i n) p 0) here ∙ getD-set-same (s .holder) p n 0 (omega (arith, m .holder-length, within .places)))
 
-        live : r .place ≡ p → kind-starts (r .kind) ≡ false → 1 ≤ seat day p .status
-        live here k = let l = subst (λ (q : ℕ). LiveSeat (r .turn) (seat day q)) here (fits-live day r k (walks-earlier z r day w .1)) in omega arith
+      going-on : kind-starts (r .kind) ≡ false → getD (holder-after n r (s .holder)) p 0 ≡ getD (s .holder) p 0
+      going-on k = rw k
 
-    -- by position
-    commits-more : (i : ℕ) → i < length order → getD (s′ .commit) i 0 ≡ commit-of (events (r ∷ day)) (getD order i 0)
-    unfolding commit-of latest events event
-    commits-more i h =
-        let commits = kind-commits (r .kind) in
-        rw (f .on-commit, position-only order who i once h)
-        (getD-set-if (listed && commits) (s .commit) at i n 0 (omega (arith, m .commit-length))
-        ∙ ap₂ (λ (b : Bool) (v : ℕ). cond b n v) (listed-first listed commits (eqb i at) (listed-there i h)) (m .commits i h))
+      live : r .place ≡ p → kind-starts (r .kind) ≡ false → 1 ≤ seat day p .status
+      live here k = let l = subst (λ (q : ℕ). LiveSeat (r .turn) (seat day q)) here (fits-live day r k (walks-earlier z r day w .1)) in omega arith
 
-    -- by position and cell
-    module _ (i c : ℕ) (h : i < length order) (k : c < z .cells) where
-      within-marks : mark i c < width * width
-      within-marks = mark-within i c (omega arith) (omega (arith, within .cells))
+  -- by position
+  commits-more : (i : ℕ) → i < length order → getD (s′ .commit) i 0 ≡ commit-of (events (r ∷ day)) (getD order i 0)
+  unfolding followed commit-of latest events event
+  commits-more i h =
+      let commits = kind-commits (r .kind) in
+      rw (position-only order who i once h)
+      (getD-set-if (listed && commits) (s .commit) at i n 0 (omega (arith, m .commit-length))
+      ∙ ap₂ (λ (b : Bool) (v : ℕ). cond b n v) (listed-first listed commits (eqb i at) (listed-there i h)) (m .commits i h))
 
-      -- the test that the record does something to the cell, of a listed one and of this one
-      tests-more : (does : Bool) → (listed && does) && eqb (mark i c) (mark at (r .cell)) ≡ eqb i at && (does && eqb (r .cell) c)
-      tests-more does =
-          ap (λ b. (listed && does) && b) (mark-only i at c (r .cell) (omega (arith, within .cells)) (cell-within z r day within w))
-          ∙ listed-both listed does (eqb i at) (eqb (r .cell) c) (listed-there i h)
+  -- by position and cell
+  module _ (i c : ℕ) (h : i < length order) (k : c < z .cells) where
+    within-marks : mark i c < width * width
+    within-marks = mark-within i c (omega arith) (omega (arith, within .cells))
 
-      writes-more : getD (s′ .wrote) (mark i c) 0 ≡ latest-write (events (r ∷ day)) (getD order i 0) c
-      unfolding latest-write latest events event
-      writes-more =
-          let writes = kind-writes (r .kind) in
-          rw (f .on-wrote, position-only order who i once h)
-          (getD-set-if (listed && writes) (s .wrote) (mark at (r .cell)) (mark i c) n 0 (omega (arith, m .wrote-length, within-marks))
-          ∙ ap₂ (λ (b : Bool) (v : ℕ). cond b n v) (tests-more writes) (m .writes i c h k))
+    -- the test that the record does something to the cell, of a listed one and of this one
+    tests-more : (does : Bool) → (listed && does) && eqb (mark i c) (mark at (r .cell)) ≡ eqb i at && (does && eqb (r .cell) c)
+    tests-more does =
+        ap (λ b. (listed && does) && b) (mark-only i at c (r .cell) (omega (arith, within .cells)) (cell-within z r day within w))
+        ∙ listed-both listed does (eqb i at) (eqb (r .cell) c) (listed-there i h)
 
-      reads-more : getD (s′ .read) (mark i c) false ≡ read-cell (events (r ∷ day)) (getD order i 0) c
-      unfolding read-cell anyIn events event
-      reads-more =
-          let reads = kind-judged-read (r .kind) in
-          rw (f .on-read, position-only order who i once h)
-          (getD-set-if (listed && reads) (s .read) (mark at (r .cell)) (mark i c) true false (omega (arith, m .read-length, within-marks))
-          ∙ ap₂ (λ (b v : Bool). cond b true v) (tests-more reads) (m .reads i c h k)
-          ∙ cond-or (eqb i at && (reads && eqb (r .cell) c)) (read-cell (events day) (getD order i 0) c))
+    writes-more : getD (s′ .wrote) (mark i c) 0 ≡ latest-write (events (r ∷ day)) (getD order i 0) c
+    unfolding followed latest-write latest events event
+    writes-more =
+        let writes = kind-writes (r .kind) in
+        rw (position-only order who i once h)
+        (getD-set-if (listed && writes) (s .wrote) (mark at (r .cell)) (mark i c) n 0 (omega (arith, m .wrote-length, within-marks))
+        ∙ ap₂ (λ (b : Bool) (v : ℕ). cond b n v) (tests-more writes) (m .writes i c h k))
 
-    -- by cell
-    tables-more : (c : ℕ) → c < z .cells → getD (s′ .table) c 0 ≡ table-record order (events (r ∷ day)) c
-    unfolding table-record events event
-    tables-more c h =
-        let commits = kind-commits (r .kind) in
-        rw (f .on-table, ← position-member order who)
-        (split listed
-        (λ l. rw l (split commits (λ k. rw k (committing (ltb-true at (length order) l))) (λ k. rw k (m .tables c h))))
-        (λ l. rw l (m .tables c h)))
-      where
-        committing : at < length order
-            → getD (laid z (s′ .wrote) at (s .table)) c 0
-            ≡ cond (wrote-cell (events (r ∷ day)) who c) (latest-write (events (r ∷ day)) who c) (table-record order (events day) c)
-        committing l =
-            let last = latest-write (events (r ∷ day)) who c in
-            let here : getD (s′ .wrote) (mark at c) 0 ≡ last = writes-more at c l h ∙ ap (λ k. latest-write (events (r ∷ day)) k c) (position-found order who l) in
-            laid-at (s′ .wrote) at z (s .table) c h (omega (arith, m .table-length, within .cells))
-            ∙ ap₂ (λ (x y : ℕ). cond (eqb x 0) y x) here (m .tables c h)
-            ∙ cond-not (eqb last 0) (table-record order (events day) c) last
-            ∙ ap (λ b. cond b last (table-record order (events day) c)) (sym (wrote-told (r ∷ day) who c))
+    reads-more : getD (s′ .read) (mark i c) false ≡ read-cell (events (r ∷ day)) (getD order i 0) c
+    unfolding followed read-cell anyIn events event
+    reads-more =
+        let reads = kind-judged-read (r .kind) in
+        rw (position-only order who i once h)
+        (getD-set-if (listed && reads) (s .read) (mark at (r .cell)) (mark i c) true false (omega (arith, m .read-length, within-marks))
+        ∙ ap₂ (λ (b v : Bool). cond b true v) (tests-more reads) (m .reads i c h k)
+        ∙ cond-or (eqb i at && (reads && eqb (r .cell) c)) (read-cell (events day) (getD order i 0) c))
 
-    -- whether somebody unlisted has committed
-    strangers-more : s′ .stranger ≡ has-stranger order (events (r ∷ day))
-    unfolding has-stranger anyIn events event
-    strangers-more =
-        f .on-stranger
-        ∙ ap₂ (λ (b old : Bool). (kind-commits (r .kind) && not b) || old) (position-member order who) (m .strangers)
+  -- by cell
+  tables-more : (c : ℕ) → c < z .cells → getD (s′ .table) c 0 ≡ table-record order (events (r ∷ day)) c
+  unfolding followed table-record events event
+  tables-more c h =
+      let commits = kind-commits (r .kind) in
+      rw (← position-member order who)
+      (split listed
+      (λ l. rw l (split commits (λ k. rw k (rw l at (committing (ltb-true at (length order) l)))) (λ k. rw k (m .tables c h))))
+      (λ l. rw l (m .tables c h)))
+    where
+      committing : at < length order
+          → getD (laid z (s′ .wrote) at (s .table)) c 0
+          ≡ cond (wrote-cell (events (r ∷ day)) who c) (latest-write (events (r ∷ day)) who c) (table-record order (events day) c)
+      committing l =
+          let last = latest-write (events (r ∷ day)) who c in
+          let here : getD (s′ .wrote) (mark at c) 0 ≡ last = writes-more at c l h ∙ ap (λ k. latest-write (events (r ∷ day)) k c) (position-found order who l) in
+          laid-at (s′ .wrote) at z (s .table) c h (omega (arith, m .table-length, within .cells))
+          ∙ ap₂ (λ (x y : ℕ). cond (eqb x 0) y x) here (m .tables c h)
+          ∙ cond-not (eqb last 0) (table-record order (events day) c) last
+          ∙ ap (λ b. cond b last (table-record order (events day) c)) (sym (wrote-told (r ∷ day) who c))
 
-    -- the records that are named are of the day
-    past-more : PastOnly (suc (length day)) s′
-    past-more = (λ c. rw (f .on-table) (bounded-laid-if (listed && kind-commits (r .kind)) n z (s′ .wrote) at (s .table) wrote-past table-past c), wrote-past)
-      where
-        older : (xs : List ℕ) → ((j : ℕ) → getD xs j 0 ≤ length day) → (j : ℕ) → getD xs j 0 ≤ n
-        older xs h j = omega (arith, h j)
+  -- whether somebody unlisted has committed
+  strangers-more : s′ .stranger ≡ has-stranger order (events (r ∷ day))
+  unfolding followed has-stranger anyIn events event
+  strangers-more =
+      ap₂ (λ (b old : Bool). (kind-commits (r .kind) && not b) || old) (position-member order who) (m .strangers)
 
-        table-past : (j : ℕ) → getD (s .table) j 0 ≤ n
-        table-past = older (s .table) (m .past .0)
+  -- the records that are named are of the day
+  past-more : PastOnly (suc (length day)) s′
+  unfolding followed
+  past-more = (λ c. bounded-laid-if (listed && kind-commits (r .kind)) n z (s′ .wrote) at (s .table) wrote-past table-past c, wrote-past)
+    where
+      older : (xs : List ℕ) → ((j : ℕ) → getD xs j 0 ≤ length day) → (j : ℕ) → getD xs j 0 ≤ n
+      older xs h j = omega (arith, h j)
 
-        wrote-past : (j : ℕ) → getD (s′ .wrote) j 0 ≤ n
-        wrote-past j =
-            rw (f .on-wrote)
-            (bounded-set-if (listed && kind-writes (r .kind)) n (s .wrote) (mark at (r .cell)) n (omega arith) (older (s .wrote) (m .past .1)) j)
+      table-past : (j : ℕ) → getD (s .table) j 0 ≤ n
+      table-past = older (s .table) (m .past .0)
 
-    followed-mirrors : Mirrors z t order (r ∷ day) s′
-    followed-mirrors =
-        record {
-          holders = holders-more;
-          commits = commits-more;
-          writes = writes-more;
-          reads = reads-more;
-          tables = tables-more;
-          at-moment = f .on-moment ∙ ap (cond (eqb who t && sets-moment (r .kind)) n) (m .at-moment) ∙ sym (moment-more z t r day w);
-          strangers = strangers-more;
-          past = past-more;
-          holder-length = ap length (f .on-holder) ∙ length-set-if (kind-starts (r .kind)) (s .holder) (r .place) n ∙ m .holder-length;
-          commit-length = ap length (f .on-commit) ∙ length-set-if (listed && kind-commits (r .kind)) (s .commit) at n ∙ m .commit-length;
-          wrote-length = ap length (f .on-wrote) ∙ length-set-if (listed && kind-writes (r .kind)) (s .wrote) (mark at (r .cell)) n ∙ m .wrote-length;
-          read-length = ap length (f .on-read) ∙ length-set-if (listed && kind-judged-read (r .kind)) (s .read) (mark at (r .cell)) true ∙ m .read-length;
-          table-length = ap length (f .on-table) ∙ length-laid-if (listed && kind-commits (r .kind)) z (s′ .wrote) at (s .table) ∙ m .table-length;
-        }
+      wrote-past : (j : ℕ) → getD (s′ .wrote) j 0 ≤ n
+      wrote-past j =
+          bounded-set-if (listed && kind-writes (r .kind)) n (s .wrote) (mark at (r .cell)) n (omega arith) (older (s .wrote) (m .past .1)) j
 
   -- what is kept mirrors one record more
-  pub mirrors-more : Mirrors z t order (r ∷ day) (followed z n r at (length order) (eqb who t) s)
+  pub mirrors-more : Mirrors z t order (r ∷ day) s′
+  unfolding followed
   mirrors-more =
-      followed-mirrors (followed z n r at (length order) (eqb who t) s) (followed-follows z n r at (eqb who t) s (length order))
+      record {
+        holders = holders-more;
+        commits = commits-more;
+        writes = writes-more;
+        reads = reads-more;
+        tables = tables-more;
+        at-moment = ap (cond (eqb who t && sets-moment (r .kind)) n) (m .at-moment) ∙ sym (moment-more z t r day w);
+        strangers = strangers-more;
+        past = past-more;
+        holder-length = length-set-if (kind-starts (r .kind)) (s .holder) (r .place) n ∙ m .holder-length;
+        commit-length = length-set-if (listed && kind-commits (r .kind)) (s .commit) at n ∙ m .commit-length;
+        wrote-length = length-set-if (listed && kind-writes (r .kind)) (s .wrote) (mark at (r .cell)) n ∙ m .wrote-length;
+        read-length = length-set-if (listed && kind-judged-read (r .kind)) (s .read) (mark at (r .cell)) true ∙ m .read-length;
+        table-length = length-laid-if (listed && kind-commits (r .kind)) z (s′ .wrote) at (s .table) ∙ m .table-length;
+      }

@@ -1,6 +1,5 @@
 pub mod Answered
 pub mod Arrays
-pub mod Changed
 pub mod Followed
 pub mod Mirrored
 pub mod Overtaken

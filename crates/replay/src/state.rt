@@ -1,11 +1,12 @@
 // What a replay keeps, and how a record changes it.
 ghost use mathlib.Core.Path.{_≡_};
-ghost use mathlib.Core.Bool.{false};
+ghost use mathlib.Core.Bool.{true, false, cond, _&&_};
 ghost use Prim.Native.Nat.{_*_, _<_, _≤_};
-ghost use lib.ListN.{replicate};
+ghost use lib.ListN.{replicate, set};
 ghost use Rattle.rules.specs.Sizes.{Within, width};
+ghost use Rattle.rules.specs.Daylog.{kind-judged-read, kind-writes};
 ghost use Rattle.rules.specs.Day.{sets-moment};
-ghost use Rattle.replay.specs.Kept.{kept-of, ChangesBy, Changes, fresh, whose-kept, with-holder, with-moment, laid, sealed, noted, followed};
+ghost use Rattle.replay.specs.Kept.{kept-of, fresh, whose-kept, holder-after, laid, followed};
 use parts::kinds;
 use rules::Record;
 use rules::Size;
@@ -49,16 +50,14 @@ pub fn whose(holder: &[u16; 32], entry: Record, n: u16) -> u16
 }
 
 // A record that starts a transaction gives it the place.
-fn hold(from: Replay, entry: Record, n: u16) -> Replay
+fn hold(holder: &mut [u16; 32], entry: Record, n: u16)
     requires { ⌜ entry .place < width ⌝ }
-    ensures { λ r. ⌜ Changes (with-holder n entry) from r ⌝ }
+    ensures { λ _. ⌜ now (holder .exit) ≡ holder-after n entry (now (holder .entry)) ⌝ }
 {
     let p = entry.place as usize;
-    let mut next = from;
     if kinds::starts(entry.kind) {
-        next.holder[p] = n;
+        holder[p] = n;
     }
-    next
 }
 
 // The kinds that set a transaction's moment: its start, a judged read that was granted, its commit.
@@ -69,78 +68,48 @@ pub fn sets_moment(kind: u8) -> bool
 }
 
 // A record of the named transaction may set its moment.
-fn timed(from: Replay, kind: u8, n: u16, named: bool) -> Replay
-    ensures { λ r. ⌜ Changes (with-moment n kind named) from r ⌝ }
+fn timed(moment: u16, kind: u8, n: u16, named: bool) -> u16
+    ensures { λ r. ⌜ r ≡ cond (named && sets-moment kind) n moment ⌝ }
 {
-    let mut next = from;
     if named & sets_moment(kind) {
-        next.moment = n;
+        return n;
     }
-    next
+    moment
+}
+
+// The listed transaction's judged read is noted, and its write with record n.
+fn note_read(read: &mut [bool; 1024], kind: u8, mark: usize)
+    requires { ⌜ mark < width * width ⌝ }
+    ensures { λ _. ⌜ now (read .exit) ≡ cond (kind-judged-read kind) (set (now (read .entry)) mark true) (now (read .entry)) ⌝ }
+{
+    if kind == 2 {
+        read[mark] = true;
+    }
+}
+
+fn note_write(wrote: &mut [u16; 1024], kind: u8, mark: usize, n: u16)
+    requires { ⌜ mark < width * width ⌝ }
+    ensures { λ _. ⌜ now (wrote .exit) ≡ cond (kind-writes kind) (set (now (wrote .entry)) mark n) (now (wrote .entry)) ⌝ }
+{
+    if kinds::writes(kind) {
+        wrote[mark] = n;
+    }
 }
 
 // Each cell that the listed transaction wrote has its value in the table from now on.
-fn lay(table: [u16; 32], wrote: &[u16; 1024], at: usize, z: Size) -> [u16; 32]
+fn lay(table: &mut [u16; 32], wrote: &[u16; 1024], at: usize, z: Size)
     requires { ⌜ Within z ⌝ }
     requires { ⌜ at < width ⌝ }
-    ensures { λ r. ⌜ r ≡ laid z (now (wrote .entry)) at table ⌝ }
+    ensures { λ _. ⌜ now (table .exit) ≡ laid z (now (wrote .entry)) at (now (table .entry)) ⌝ }
 {
-    let mut now = table;
     let mut c = 0;
     while c < z.cells {
         let mark = 32 * at + c;
         if wrote[mark] != 0 {
-            now[c] = wrote[mark];
+            table[c] = wrote[mark];
         }
         c += 1;
     }
-    now
-}
-
-// The listed transaction commits with record n.
-fn seal(from: Replay, wrote: &[u16; 1024], at: usize, n: u16, z: Size) -> Replay
-    requires { ⌜ Within z ⌝ }
-    requires { ⌜ at < width ⌝ }
-    ensures { λ r. ⌜ ChangesBy (now (wrote .entry)) (sealed z n at) from r ⌝ }
-{
-    let table = from.table;
-    let mut next = from;
-    next.commit[at] = n;
-    next.table = lay(table, wrote, at, z);
-    next
-}
-
-// What record number n, of the transaction listed at a position, leaves.
-fn note(
-    from: Replay,
-    wrote: &mut [u16; 1024],
-    read: &mut [bool; 1024],
-    entry: Record,
-    n: u16,
-    at: usize,
-    z: Size,
-) -> Replay
-    requires { ⌜ Within z ⌝ }
-    requires { ⌜ (at < width) × (entry .cell < width) ⌝ }
-    ensures { λ r. ⌜ kept-of r (now (wrote .exit)) (now (read .exit)) ≡ noted z n entry at (kept-of from (now (wrote .entry)) (now (read .entry))) ⌝ }
-{
-    let mark = 32 * at + entry.cell as usize;
-    if entry.kind == 2 {
-        read[mark] = true;
-        return from;
-    }
-    if entry.kind == 4 {
-        wrote[mark] = n;
-        return from;
-    }
-    if entry.kind == 5 {
-        return seal(from, wrote, at, n, z);
-    }
-    if entry.kind == 9 {
-        wrote[mark] = n;
-        return seal(from, wrote, at, n, z);
-    }
-    from
 }
 
 // What record number n leaves: its transaction stands at a position of a list of so many, or is not listed.
@@ -159,12 +128,19 @@ pub fn follow(
     requires { ⌜ (count ≤ width) × ((entry .place < width) × (entry .cell < width)) ⌝ }
     ensures { λ r. ⌜ kept-of r (now (wrote .exit)) (now (read .exit)) ≡ followed z n entry at count named (kept-of from (now (wrote .entry)) (now (read .entry))) ⌝ }
 {
-    let mut next = timed(hold(from, entry, n), entry.kind, n, named);
-    if at < count {
-        return note(next, wrote, read, entry, n, at, z);
+    let mut next = from;
+    hold(&mut next.holder, entry, n);
+    next.moment = timed(next.moment, entry.kind, n, named);
+    if at >= count {
+        next.stranger = kinds::commits(entry.kind) | next.stranger;
+        return next;
     }
+    let mark = 32 * at + entry.cell as usize;
+    note_read(read, entry.kind, mark);
+    note_write(wrote, entry.kind, mark, n);
     if kinds::commits(entry.kind) {
-        next.stranger = true;
+        next.commit[at] = n;
+        lay(&mut next.table, wrote, at, z);
     }
     next
 }

@@ -10,10 +10,10 @@ use Rattle.replay.proofs.state.lay.Statement.{statement}
 use Rattle.replay.proofs.state.lay.Tie as tie
 
 abbrev Inv-loop : tie.InvT-loop
-Inv-loop wrote at z now₀ c₀ now c = (c ≤ z .cells) × (now ≡ laid-below wrote at c now₀)
+Inv-loop table₀ wrote at z c₀ table c = (c ≤ z .cells) × (table ≡ laid-below wrote at c table₀)
 
 abbrev μ-loop : tie.MeasureT-loop
-μ-loop wrote at z now₀ c₀ now c = z .cells - c
+μ-loop table₀ wrote at z c₀ table c = z .cells - c
 
 loop-holds : tie.Need-loop-holds Inv-loop μ-loop
 loop-holds c = (omega arith, laid-none _ _ _)
@@ -30,17 +30,17 @@ mul-if2 c = search needs
 element-copy-out-if2 : tie.Need-element-copy-out-if2 Inv-loop μ-loop
 element-copy-out-if2 c = search needs
 
-mul-now : tie.Need-mul-now Inv-loop μ-loop
-mul-now c = search needs
+mul-table : tie.Need-mul-table Inv-loop μ-loop
+mul-table c = search needs
 
-element-copy-out-now : tie.Need-element-copy-out-now Inv-loop μ-loop
-element-copy-out-now c = search needs
+element-copy-out-table : tie.Need-element-copy-out-table Inv-loop μ-loop
+element-copy-out-table c = search needs
 
-mul-now-2 : tie.Need-mul-now-2 Inv-loop μ-loop
-mul-now-2 c = search needs
+mul-table-2 : tie.Need-mul-table-2 Inv-loop μ-loop
+mul-table-2 c = search needs
 
-array-write-now : tie.Need-array-write-now Inv-loop μ-loop
-array-write-now c = search needs
+element-write-table : tie.Need-element-write-table Inv-loop μ-loop
+element-write-table c = search needs
 
 add-c : tie.Need-add-c Inv-loop μ-loop
 add-c c = search needs
@@ -71,10 +71,10 @@ lay-spec =
     add-mark
     mul-if2
     element-copy-out-if2
-    mul-now
-    element-copy-out-now
-    mul-now-2
-    array-write-now
+    mul-table
+    element-copy-out-table
+    mul-table-2
+    element-write-table
     add-c
     loop-less
     loop-again
