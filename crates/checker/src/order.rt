@@ -34,8 +34,10 @@ fn is_replayed(opening: &[u8], log: &[u8], records: u16, t: u16, list: &[u16], z
         n += 1;
         let who = state::whose(&kept.holder, entry, n);
         let at = lists::position(list, who);
-        if at < list.len() {
-            if !explain::is_explained(
+        let count = list.len();
+        let named = who == t;
+        if at < count {
+            let right = explain::is_explained(
                 kept,
                 &wrote,
                 &read,
@@ -44,24 +46,15 @@ fn is_replayed(opening: &[u8], log: &[u8], records: u16, t: u16, list: &[u16], z
                 entry,
                 n,
                 at,
-                list.len(),
-                who == t,
+                count,
+                named,
                 z,
-            ) {
+            );
+            if !right {
                 return false;
             }
         }
-        kept = state::follow(
-            kept,
-            &mut wrote,
-            &mut read,
-            entry,
-            n,
-            at,
-            list.len(),
-            who == t,
-            z,
-        );
+        kept = state::follow(kept, &mut wrote, &mut read, entry, n, at, count, named, z);
     }
     company::is_in_time(kept, list, t)
 }

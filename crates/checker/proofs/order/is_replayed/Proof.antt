@@ -1,7 +1,7 @@
 -- `checker::order::is_replayed` meets its contract. The loop's invariant: what is kept mirrors the first n records, and each of them is
 -- explained. Assumes nothing.
-use Prim.Native.Nat.{ℕ, _-_, _≤_, _<_}
-use mathlib.Core.Path.{_≡_, sym, _∙_, subst}
+use Prim.Native.Nat.{_-_, _≤_, _<_}
+use mathlib.Core.Path.{_≡_, sym, _∙_}
 use mathlib.Core.Logic.{⊎-elim}
 use native.Mathlib.Omega.{arith}
 use borrow.Author.Needs.{needs}
@@ -21,9 +21,7 @@ fresh-requires : tie.Need-fresh-requires Inv-loop μ-loop
 fresh-requires c κs = search needs
 
 loop-holds : tie.Need-loop-holds Inv-loop μ-loop
-loop-holds c =
-    let a = c .before .before .before .before .args in
-    (omega arith, rw (c .fresh .ensures) (turn-none (a .z) (a .opening .now) (a .log .now) (a .t) (a .list .now)))
+loop-holds c = (omega arith, rw (c .fresh .ensures) (turn-none _ _ _ _ _))
 
 record-at-requires : tie.Need-record-at-requires Inv-loop μ-loop
 record-at-requires c κs = omega (arith, c .before .before .before .before .before .before .pre .1 .0 .0)
@@ -97,14 +95,13 @@ is-in-time-requires c κs = c .before .before .before .before .before .before .p
 
 returns-2 : tie.Need-returns-2 Inv-loop μ-loop
 returns-2 c =
-    let a = c .before .before .before .before .before .before .before .args in
-    let pre = c .before .before .before .before .before .before .before .pre in
     let end = c .before .before .loop in
-    let all : end .n ≡ a .records = omega arith in
+    let start = c .before .before .before .before .before .before .before in
+    let all : end .n ≡ start .args .records = omega arith in
+    let turn = rw all at (end .inv .1) in
     c .is-in-time .ensures
-    ∙ turn-ends (a .z) (a .opening .now) (a .log .now) (a .t) (a .list .now) (a .records) (pre .0) (pre .1 .0 .1) (pre .1 .1 .1 .0 .0) (pre .1 .1 .0 .1)
-    (kept-of (end .kept) (end .wrote) (end .read)) (pre .1 .1 .1 .1) (pre .1 .1 .1 .0 .1)
-    (subst (λ (i : ℕ). Turn (a .z) (a .opening .now) (a .log .now) (a .t) (a .list .now) i (kept-of (end .kept) (end .wrote) (end .read))) all (end .inv .1))
+    ∙ turn-ends _ _ _ _ _ _ (start .pre .0) (start .pre .1 .0 .1) (start .pre .1 .1 .1 .0 .0) (start .pre .1 .1 .0 .1) _ (start .pre .1 .1 .1 .1)
+    (start .pre .1 .1 .1 .0 .1) turn
 
 pub is-replayed-spec : {M : Type 1} → statement M
 is-replayed-spec =
