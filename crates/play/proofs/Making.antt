@@ -1,8 +1,7 @@
--- Laws of the machine's call for a line: every kind of line that is named by no other call is an open, and what a call leaves stays the same
--- where the call and its value are given in another form; and what playing a line leaves. Assumes nothing.
-use mathlib.Core.Path.{_≡_, refl, _∙_, ap, ap₂, subst}
+-- Laws of what playing a line leaves. Assumes nothing.
+use mathlib.Core.Path.{_≡_, refl, _∙_, ap, ap₂}
 use mathlib.Core.List.{List}
-use Prim.Native.Nat.{ℕ, suc, _-_, _≤_, _<_}
+use Prim.Native.Nat.{ℕ, _≤_, _<_}
 use native.Mathlib.Omega.{arith}
 use lib.ListN.{replicate}
 use borrow.Author.Tests.{lt-leb, le-leb, eq-eqb, ne-eqb}
@@ -10,31 +9,8 @@ use Rattle.texts.specs.Placed.{with-text}
 use Rattle.script.specs.declared.lines.Line.{Line}
 use Rattle.machine.specs.declared.books.Answer.{Answer}
 use Rattle.machine.specs.declared.books.Books.{Books}
-use Rattle.machine.specs.declared.call.Call.{Call}
-use Rattle.machine.specs.declared.call.Kind.the-variants.{Open}
-use Rattle.machine.specs.Promises.{call-outcome, LeavesAll}
-use Rattle.play.specs.Made.{kind-for, line-outcome, opening-after, Played}
-
--- a number that is at least n and is not n is more
-pub past : (n : ℕ) {k : ℕ} → n ≤ k → (k ≡ n → ⊥) → suc n ≤ k
-past n h other = omega arith
-
--- the kinds from 8 on
-pub open-from-eight : (k : ℕ) → 8 ≤ k → Open ≡ kind-for k
-unfolding kind-for
-open-from-eight k h =
-    let eight : suc (suc (suc (suc (suc (suc (suc (suc (k - 8)))))))) ≡ k = omega arith in
-    subst (λ (n : ℕ). Open ≡ kind-for n) eight refl
-
--- what a call leaves, by another form of the call and of its value
-pub made-same : (books : Books) (table drafts log numbers : List ℕ) (r : Answer) (table′ drafts′ log′ numbers′ : List ℕ) {call other : Call} {value given : List ℕ} → call ≡ other → value ≡ given
-    → LeavesAll (books .records) log numbers r table′ drafts′ log′ numbers′ (call-outcome books call value table drafts log numbers)
-    → LeavesAll (books .records) log numbers r table′ drafts′ log′ numbers′ (call-outcome books other given table drafts log numbers)
-made-same books table drafts log numbers r table′ drafts′ log′ numbers′ {call} {other} {value} {given} e q h =
-    subst (λ (v : List ℕ). LeavesAll (books .records) log numbers r table′ drafts′ log′ numbers′ (call-outcome books other v table drafts log numbers)) q
-    (subst (λ (c : Call). LeavesAll (books .records) log numbers r table′ drafts′ log′ numbers′ (call-outcome books c value table drafts log numbers)) e h)
-
--- ---- what playing a line leaves
+use Rattle.machine.specs.Promises.{LeavesAll}
+use Rattle.play.specs.Made.{line-outcome, opening-after, Played}
 
 -- the day's opening table: it stays, or the table as it is takes its place
 module _ (kind number : ℕ) (table opening : List ℕ) where

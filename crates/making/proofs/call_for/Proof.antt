@@ -1,9 +1,9 @@
--- `play::calls::call_for` meets its contract: a post, or a call by its kind. Assumes nothing.
+-- `making::call_for` meets its contract: a post, or a call by its kind. Assumes nothing.
 use borrow.Author.Tests.{eq-eqb, ne-eqb}
 use borrow.Author.Needs.{needs}
-use Rattle.play.specs.Made.{call-for}
-use Rattle.play.proofs.calls.call_for.Statement.{statement}
-use Rattle.play.proofs.calls.call_for.Tie as tie
+use Rattle.making.specs.Made.{call-for}
+use Rattle.making.proofs.call_for.Statement.{statement}
+use Rattle.making.proofs.call_for.Tie as tie
 
 returns : tie.Need-returns
 unfolding call-for

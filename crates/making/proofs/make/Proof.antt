@@ -1,9 +1,9 @@
--- `play::calls::make` meets its contract: the machine is handed the call of the line and the value that stands on it. Assumes nothing.
+-- `making::make` meets its contract: the machine is handed the call of the line and the value that stands on it. Assumes nothing.
 use denote.Ref.{now}
 use borrow.Author.Needs.{needs}
-use Rattle.play.proofs.Making.{made-same}
-use Rattle.play.proofs.calls.make.Statement.{statement}
-use Rattle.play.proofs.calls.make.Tie as tie
+use Rattle.making.proofs.Making.{made-same}
+use Rattle.making.proofs.make.Statement.{statement}
+use Rattle.making.proofs.make.Tie as tie
 
 slice-aggregate-value-of : tie.Need-slice-aggregate-value-of
 slice-aggregate-value-of c = search needs

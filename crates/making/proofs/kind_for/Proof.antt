@@ -1,9 +1,9 @@
--- `play::calls::kind_for` meets its contract: each arm is a kind of its own, and the rest are opens. Assumes nothing.
+-- `making::kind_for` meets its contract: each arm is a kind of its own, and the rest are opens. Assumes nothing.
 use Prim.Native.Nat.{zero-le}
-use Rattle.play.specs.Made.{kind-for}
-use Rattle.play.proofs.Making.{past, open-from-eight}
-use Rattle.play.proofs.calls.kind_for.Statement.{statement}
-use Rattle.play.proofs.calls.kind_for.Tie as tie
+use Rattle.making.specs.Made.{kind-for}
+use Rattle.making.proofs.Making.{past, open-from-eight}
+use Rattle.making.proofs.kind_for.Statement.{statement}
+use Rattle.making.proofs.kind_for.Tie as tie
 
 returns : tie.Need-returns
 unfolding kind-for
