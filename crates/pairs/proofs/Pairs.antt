@@ -1,7 +1,7 @@
 -- The three kinds of pair that a cell makes, seen in one pass over the cells. One that is not committed is given a commit record all the same: as K
 -- 65,535, after which no record of 16 bits comes, and as M 0, before which none does; so what it wrote counts for nothing. Assumes nothing.
 use Prim.Native.Nat.{ℕ, _≤_}
-use mathlib.Core.Path.{_≡_, refl, sym, ap₂}
+use mathlib.Core.Path.{_≡_, refl, ap₂}
 use mathlib.Core.Bool.{Bool, true, false, cond, _&&_, _||_}
 use native.Mathlib.Omega.{arith}
 use lib.Dec.{leb, ltb}
@@ -16,7 +16,7 @@ use Rattle.rules.specs.Judging.{write-write, write-read, read-write}
 use Rattle.pairs.specs.Cells.{overlap-of, read-after-of, read-before-of, comes-first}
 use Rattle.pairs.specs.Commits.{commit-or}
 
--- a search that counts only where b holds is one for a test that none passes elsewhere
+-- a search made only where b passes is a search for a test that nobody passes where b fails
 any-where : (b : Bool) (p : Bool → ℕ → Bool) (n : ℕ) → ((i : ℕ) → p false i ≡ false) → anyBelow (p b) n ≡ b && anyBelow (p true) n
 any-where true p n none = refl
 any-where false p n none = any-fails (p false) n (λ i h. none i)
@@ -29,6 +29,7 @@ module _ (z : Size) (k m : Place) where
   abbrev sealed : ℕ
   sealed = commit-or m 0
 
+  -- what the pass sees of each of the three kinds
   write-write-seen : m .commit ≤ 65535 → ltb commit sealed && overlap-of (k .written) (m .written) (z .cells) ≡ write-write z k m
   unfolding write-write
   write-write-seen fits = by-status (is-committed k) (is-committed m) (overlap-of (k .written) (m .written) (z .cells))

@@ -1,4 +1,4 @@
--- `squares::square::square` meets its contract. The outer loop's invariant: the rows below m are filled in, each with who stands before its own or empty of marks.
+-- `squares::square::square` meets its contract. The outer loop's invariant: the rows below m are filled in, those of the ones present as `row-of` says, the others empty of marks.
 -- The inner loop's invariant: the row of m is filled in below k by who is present and stands before m. The measures are what is left of the places.
 -- Assumes nothing.
 use Prim.Native.Nat.{_≤_, _-_}
