@@ -129,17 +129,18 @@ pub fn follow(
     requires { ⌜ (count ≤ width) × ((entry .place < width) × (entry .cell < width)) ⌝ }
     ensures { λ r. ⌜ kept-of r (now (wrote .exit)) (now (read .exit)) ≡ followed z n entry at count named (kept-of from (now (wrote .entry)) (now (read .entry))) ⌝ }
 {
+    let kind = entry.kind;
     let mut next = from;
     hold(&mut next.holder, entry, n);
-    next.moment = timed(next.moment, entry.kind, n, named);
+    next.moment = timed(next.moment, kind, n, named);
     if at >= count {
-        next.stranger = kinds::commits(entry.kind) | next.stranger;
+        next.stranger = kinds::commits(kind) | next.stranger;
         return next;
     }
     let mark = 32 * at + entry.cell as usize;
-    note_read(read, entry.kind, mark);
-    note_write(wrote, entry.kind, mark, n);
-    if kinds::commits(entry.kind) {
+    note_read(read, kind, mark);
+    note_write(wrote, kind, mark, n);
+    if kinds::commits(kind) {
         next.commit[at] = n;
         lay(&mut next.table, wrote, at, z);
     }
