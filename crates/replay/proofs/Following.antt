@@ -19,6 +19,7 @@ module _ (z : Size) (n : ℕ) (r : Record) (at count : ℕ) (named : Bool) (s : 
   now-kept commit table stranger wrote′ read′ =
       record { holder = holder; commit = commit; wrote = wrote′; read = read′; table = table; moment = moment; stranger = stranger }
 
+  -- the transaction is not listed
   pub followed-stranger : {commits : Bool} → commits ≡ kind-commits (r .kind) → count ≤ at
       → now-kept (s .commit) (s .table) (commits || s .stranger) wrote read ≡ followed z n r at count named (kept-of s wrote read)
   unfolding followed
@@ -26,11 +27,13 @@ module _ (z : Size) (n : ℕ) (r : Record) (at count : ℕ) (named : Bool) (s : 
 
   module _ (listed : at < count) {wrote′ : List ℕ} {read′ : List Bool} (w : wrote′ ≡ cond (kind-writes (r .kind)) (set wrote (mark at (r .cell)) n) wrote)
       (d : read′ ≡ cond (kind-judged-read (r .kind)) (set read (mark at (r .cell)) true) read) where
+    -- it is listed, and commits
     pub followed-commit : {table : List ℕ} → table ≡ laid z wrote′ at (s .table) → kind-commits (r .kind) ≡ true
         → now-kept (set (s .commit) at n) table (s .stranger) wrote′ read′ ≡ followed z n r at count named (kept-of s wrote read)
     unfolding followed
     followed-commit l k = rw (lt-ltb at count listed, k, h, t, d, l, w)
 
+    -- it is listed, and does not
     pub followed-other : kind-commits (r .kind) ≡ false
         → now-kept (s .commit) (s .table) (s .stranger) wrote′ read′ ≡ followed z n r at count named (kept-of s wrote read)
     unfolding followed

@@ -77,7 +77,7 @@ fn timed(moment: u16, kind: u8, n: u16, named: bool) -> u16
     moment
 }
 
-// The listed transaction's judged read is noted.
+// A judged read of the listed transaction is noted.
 fn note_read(read: &mut [bool; 1024], kind: u8, mark: usize)
     requires { ⌜ mark < width * width ⌝ }
     ensures { λ _. ⌜ now (read .exit) ≡ cond (kind-judged-read kind) (set (now (read .entry)) mark true) (now (read .entry)) ⌝ }
@@ -87,7 +87,7 @@ fn note_read(read: &mut [bool; 1024], kind: u8, mark: usize)
     }
 }
 
-// The listed transaction's write is noted, with record n.
+// A write of the listed transaction, record n, is noted.
 fn note_write(wrote: &mut [u16; 1024], kind: u8, mark: usize, n: u16)
     requires { ⌜ mark < width * width ⌝ }
     ensures { λ _. ⌜ now (wrote .exit) ≡ cond (kind-writes kind) (set (now (wrote .entry)) mark n) (now (wrote .entry)) ⌝ }

@@ -1,5 +1,5 @@
 -- `checker::order::is_replayed` meets its contract. The loop's invariant: what is kept mirrors the first n records, and each of them is
--- explained. Assumes nothing.
+-- explained. The measure is what is left of the records. Assumes nothing.
 use Prim.Native.Nat.{_-_, _≤_, _<_}
 use mathlib.Core.Path.{_≡_, sym, _∙_}
 use mathlib.Core.Logic.{⊎-elim}
