@@ -1,0 +1,230 @@
+//! The profiles: what is run, how often, and how one seed of it is run.
+
+use crate::checker::list_bytes;
+use crate::daylog::{log_bytes, OPENING};
+use crate::failure::{Failure, Question};
+use crate::history::transactions;
+use crate::random::Random;
+use crate::script::{lines, Player};
+use crate::trial::{day_of, Bench, Look};
+use crate::{checker, damage, daylog, logs, scripts, small, smalldays};
+
+/// How a script's days are looked at, unless they are small ones.
+pub const PLAIN_LOOK: Look = Look { accepts: 2, small: 3 };
+/// How small days, and cases, are looked at.
+pub const SMALL_LOOK: Look = Look { accepts: 4, small: 6 };
+
+/// A profile: its name, how many seeds a default run has of it, and how one is run.
+pub struct Profile {
+    pub name: &'static str,
+    pub count: u64,
+    pub run: fn(&mut Bench, &'static str, u64) -> Result<(), Failure>,
+}
+
+/// Every profile.
+pub const ALL: &[Profile] = &[
+    Profile { name: "turn-wrap", count: 2, run: run_script },
+    Profile { name: "short", count: 600, run: run_script },
+    Profile { name: "few-cells", count: 600, run: run_script },
+    Profile { name: "many-cells", count: 150, run: run_script },
+    Profile { name: "handles", count: 200, run: run_script },
+    Profile { name: "posts", count: 200, run: run_script },
+    Profile { name: "days", count: 200, run: run_script },
+    Profile { name: "lines", count: 200, run: run_script },
+    Profile { name: "give-ups", count: 20, run: run_script },
+    Profile { name: "full-house", count: 100, run: run_script },
+    Profile { name: "mixed", count: 200, run: run_script },
+    Profile { name: "house", count: 50, run: run_script },
+    Profile { name: "log-full", count: 20, run: run_script },
+    Profile { name: "log-full-none", count: 20, run: run_script },
+    Profile { name: "two-by-two", count: 529, run: run_two_by_two },
+    Profile { name: "two-by-three", count: 100, run: run_two_by_three },
+    Profile { name: "three-by-one", count: 343, run: run_three_by_one },
+    Profile { name: "three-by-two", count: 100, run: run_three_by_two },
+    Profile { name: "small", count: 100, run: run_small },
+    Profile { name: "six", count: 10, run: run_six },
+    Profile { name: "damage", count: 200, run: run_damage },
+    Profile { name: "logs", count: 200, run: run_logs },
+    Profile { name: "entry", count: 100, run: run_entry },
+    Profile { name: "words", count: 4, run: run_words },
+];
+
+/// A script of a profile, played and looked at.
+fn run_script(bench: &mut Bench, name: &'static str, seed: u64) -> Result<(), Failure> {
+    bench.script(&scripts::script(name, seed), PLAIN_LOOK)
+}
+
+/// Every interleaving of two transactions with up to two reads and writes of two cells.
+fn run_two_by_two(bench: &mut Bench, name: &'static str, seed: u64) -> Result<(), Failure> {
+    bench.script(&smalldays::every_interleaving(name, seed, 2, 2, usize::MAX), SMALL_LOOK)
+}
+
+/// Interleavings of two transactions with up to three reads and writes of two cells.
+fn run_two_by_three(bench: &mut Bench, name: &'static str, seed: u64) -> Result<(), Failure> {
+    let choice = Random::new(name, seed).next();
+    bench.script(&smalldays::every_interleaving(name, choice, 2, 3, 130), SMALL_LOOK)
+}
+
+/// Every interleaving of three transactions with up to one read or write of two cells.
+fn run_three_by_one(bench: &mut Bench, name: &'static str, seed: u64) -> Result<(), Failure> {
+    bench.script(&smalldays::every_interleaving(name, seed, 3, 1, usize::MAX), SMALL_LOOK)
+}
+
+/// Interleavings of three transactions with up to two reads and writes of two cells.
+fn run_three_by_two(bench: &mut Bench, name: &'static str, seed: u64) -> Result<(), Failure> {
+    let choice = Random::new(name, seed).next();
+    bench.script(&smalldays::every_interleaving(name, choice, 3, 2, 100), SMALL_LOOK)
+}
+
+/// Random days with up to four transactions.
+fn run_small(bench: &mut Bench, name: &'static str, seed: u64) -> Result<(), Failure> {
+    bench.script(&smalldays::random_days(name, seed, 4), SMALL_LOOK)
+}
+
+/// Random days with up to six transactions.
+fn run_six(bench: &mut Bench, name: &'static str, seed: u64) -> Result<(), Failure> {
+    bench.script(&smalldays::random_days(name, seed, 6), SMALL_LOOK)
+}
+
+/// The days that a script of this profile and seed saves, and the one at its end.
+fn days_of(profile: &str, seed: u64) -> Vec<Vec<u8>> {
+    let mut player = Player::new();
+    for line in lines(&scripts::script(profile, seed)) {
+        player.play(line);
+    }
+    let mut days: Vec<Vec<u8>> = player.saved.values().cloned().collect();
+    days.push(day_of(&player));
+    days
+}
+
+/// Damaged days put to the checker, and some of them to the programs.
+fn run_damage(bench: &mut Bench, name: &'static str, seed: u64) -> Result<(), Failure> {
+    let mut random = Random::new(name, seed);
+    let profile = match random.below(60) {
+        0 => "log-full",
+        1 => "give-ups",
+        _ => random.pick(&["short", "short", "few-cells", "posts", "days", "full-house", "mixed"]),
+    };
+    let days = days_of(profile, random.next());
+    for i in 0..60 {
+        let day = damage::damaged(&mut random, &days[i % days.len()]);
+        let accepts = if i % 12 == 0 { 2 } else { 0 };
+        bench.day(&day, &mut random, accepts)?;
+        if i % 6 == 0 {
+            reported(bench, &day)?;
+        }
+    }
+    Ok(())
+}
+
+/// Puts a day to the report; a difference is kept as a question.
+fn reported(bench: &mut Bench, day: &[u8]) -> Result<(), Failure> {
+    bench.report(day).map_err(|difference| {
+        let (opening, log) = day.split_at(day.len().min(OPENING));
+        let question = Question { opening: opening.to_vec(), log: log.to_vec(), begin: 1, list: vec![1, 0] };
+        Failure::question(&question, difference)
+    })
+}
+
+/// Logs that no machine would write: every list where there are few transactions, lists of many kinds on the others.
+fn run_logs(bench: &mut Bench, name: &'static str, seed: u64) -> Result<(), Failure> {
+    let mut random = Random::new(name, seed);
+    for i in 0..20 {
+        let most = random.pick(&[2, 3, 4, usize::MAX, usize::MAX]);
+        let day = logs::random_day(Random::new(name, random.next()), most);
+        let (opening, log) = day.split_at(OPENING);
+        let history = daylog::read_log(log).unwrap_or_default();
+        if most <= 4 {
+            let opening = checker::table_from(opening).unwrap_or([[0; 8]; 32]);
+            for one in transactions(&history) {
+                small::accepted_lists(bench, &opening, &history, one.begin)?;
+            }
+        }
+        let accepts = if i == 0 { 3 } else { 0 };
+        bench.day(&day, &mut random, accepts)?;
+        if i < 2 {
+            reported(bench, &day)?;
+        }
+        let spoilt = damage::damaged(&mut random, &day);
+        bench.day(&spoilt, &mut random, 0)?;
+    }
+    Ok(())
+}
+
+/// The entry for C with an opening table of any length, a list of odd bytes, any bytes as log.
+fn run_entry(bench: &mut Bench, name: &'static str, seed: u64) -> Result<(), Failure> {
+    let mut random = Random::new(name, seed);
+    let days = days_of("short", random.next());
+    for i in 0..100 {
+        let day = &days[i % days.len()];
+        let mut opening = day[..OPENING].to_vec();
+        let mut log = day[OPENING..].to_vec();
+        let mut list = list_bytes(&[1, random.between(1, 9) as u16]);
+        if random.chance(300) {
+            opening.resize(random.pick(&[0, 1, 8, 128, 255, 257, 272, 512]), 0);
+        }
+        if random.chance(300) {
+            list.resize(random.pick(&[0, 1, 2, 3, 5, 63, 64, 65, 66, 67, 1001]), 0);
+        }
+        match random.below(6) {
+            0 => log = any_bytes(&mut random),
+            1 => log = log_bytes(&[]),
+            2 => log.clear(),
+            _ => {}
+        }
+        let begin = random.pick(&[0, 1, 1, 1, 2, 3, 65_537, u32::MAX]);
+        bench.question(&Question { opening, log, begin, list })?;
+    }
+    Ok(())
+}
+
+/// Any bytes, of a length that a log may have, mostly, and sometimes with the letters at the end.
+fn any_bytes(random: &mut Random) -> Vec<u8> {
+    let length = random.pick(&[1, 15, 16, 17, 32, 48, 160, 1600, 64_000, 64_016, 64_017, 64_032]);
+    let most = random.pick(&[2, 10, 256]);
+    let mut bytes: Vec<u8> = (0..length).map(|_| random.below(most) as u8).collect();
+    if length >= 16 && random.chance(500) {
+        let trailer = daylog::trailer_bytes(length / 16 - 1, random.below(4));
+        bytes[length - 16..].copy_from_slice(&trailer);
+    }
+    bytes
+}
+
+/// Words for `accept` that are no numbers, or look so.
+const WORDS: &[&str] = &[
+    "", "x", "1x", "x1", "-1", "+1", " 1", "1 ", "1.0", "0x1", "1e0", "\t1", "#1", "01", "0000000001", "0", "1", "2", "4",
+    "65535", "65536", "065535", "065536", "4294967295", "4294967296", "18446744073709551617", "\u{661}", "--", "-h",
+];
+
+/// Words of any kind put to the program `accept`, on a day, a damaged one and one that is too short.
+fn run_words(bench: &mut Bench, name: &'static str, seed: u64) -> Result<(), Failure> {
+    let mut random = Random::new(name, seed);
+    let day = days_of("short", random.next()).pop().unwrap_or_default();
+    let days = [day.clone(), day[..day.len() - 1].to_vec(), day[..100].to_vec(), Vec::new()];
+    for i in 0..60 {
+        let mut words: Vec<Vec<u8>> = Vec::new();
+        for _ in 0..random.pick(&[0, 1, 2, 2, 3, 3, 4, 33, 34, 40]) {
+            words.push(any_word(&mut random));
+        }
+        let day = &days[if i % 3 == 0 { random.below(4) } else { 0 }];
+        bench.accept_words(day, &words).map_err(|difference| {
+            let said: Vec<String> = words.iter().map(|word| format!("{:?}", String::from_utf8_lossy(word))).collect();
+            Failure::other(format!("accept {}: {difference}", said.join(" ")))
+        })?;
+    }
+    Ok(())
+}
+
+/// A word for `accept`: mostly a number.
+fn any_word(random: &mut Random) -> Vec<u8> {
+    match random.below(12) {
+        0 | 1 => random.pick(WORDS).as_bytes().to_vec(),
+        2 => {
+            let mut word = vec![b'0'; random.pick(&[100, 4094, 4095, 4096])];
+            word.push(b'1');
+            word
+        }
+        3 => vec![random.between(1, 255) as u8],
+        _ => random.between(1, 12).to_string().into_bytes(),
+    }
+}

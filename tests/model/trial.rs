@@ -1,0 +1,191 @@
+//! One trial of the machine against the model: a script played by both, a day put to the report, a question put to the checker.
+
+use crate::breaks::nothing_broken;
+use crate::checker;
+use crate::daylog::{day_bytes, log_bytes, read_log, table_bytes, OPENING};
+use crate::failure::{Failure, Question};
+use crate::history::transactions;
+use crate::lists;
+use crate::programs::{entry, Programs};
+use crate::random::Random;
+use crate::report::report_text;
+use crate::script::{lines, Player};
+use crate::small;
+use crate::tally::Tally;
+
+/// What a trial needs: the programs, and the counts.
+pub struct Bench {
+    pub programs: Programs,
+    pub tally: Tally,
+}
+
+/// How closely a script is looked at.
+#[derive(Clone, Copy)]
+pub struct Look {
+    /// So many questions on each saved day go to the program `accept`, too.
+    pub accepts: usize,
+    /// Every list is put to the checker where a day has at most so many transactions.
+    pub small: usize,
+}
+
+impl Bench {
+    /// Plays a script by machine and model, and looks at every line, every order given, every judged call of a small day, every saved day.
+    pub fn script(&mut self, script: &[u8], look: Look) -> Result<(), Failure> {
+        let fail = |difference| Failure::script(script, difference);
+        let printed = self.programs.play(script).map_err(fail)?;
+        self.tally.scripts += 1;
+        self.tally.processes += 1;
+        let mut printed = lines(&printed).into_iter();
+        let mut player = Player::new();
+        for line in lines(script) {
+            player.play(line);
+            let said = self.same_lines(&player, &mut printed).map_err(fail)?;
+            self.given(&player, &said, script, look)?;
+            if player.machine.weighed.is_some() {
+                small::weigh(self, &player.machine, &said, look.small, script)?;
+            }
+        }
+        if let Some(more) = printed.next() {
+            return Err(fail(format!("play goes on with \"{}\"", String::from_utf8_lossy(more))));
+        }
+        if nothing_broken() && !player.machine.books_tell_the_history() {
+            return Err(fail("the model's books do not tell its history".to_string()));
+        }
+        self.tally.add(&player.tally);
+        self.saved(&player, script, look)
+    }
+
+    /// Holds what play printed for the last line against the model; gives the first of these lines.
+    fn same_lines<'a>(
+        &self,
+        player: &Player,
+        printed: &mut impl Iterator<Item = &'a [u8]>,
+    ) -> Result<String, String> {
+        let mut first = String::new();
+        for (i, expected) in player.printed.iter().enumerate() {
+            let said = match printed.next() {
+                Some(said) => String::from_utf8_lossy(said).into_owned(),
+                None => "nothing more".to_string(),
+            };
+            if said != *expected {
+                let line = player.line;
+                return Err(format!("line {line}: play prints \"{said}\", the model \"{expected}\""));
+            }
+            if i == 0 {
+                first = said;
+            }
+        }
+        Ok(first)
+    }
+
+    /// Puts an order that play printed to the checker, on the log as it stands.
+    fn given(&mut self, player: &Player, said: &str, script: &[u8], look: Look) -> Result<(), Failure> {
+        let Some(given) = &player.given else {
+            return Ok(());
+        };
+        let numbers = said.split(' ').skip(2).map(|word| word.parse::<u16>());
+        let order: Vec<u16> = numbers.collect::<Result<_, _>>().unwrap_or_default();
+        let machine = &player.machine;
+        let question = Question {
+            opening: table_bytes(&machine.opening),
+            log: log_bytes(&machine.history),
+            begin: given.begin as u32,
+            list: checker::list_bytes(&order),
+        };
+        let answer = self.question(&question)?;
+        if answer != 0 {
+            let difference = format!("line {}: the order given meets {answer}", player.line);
+            return Err(Failure::script(script, difference));
+        }
+        small::least(self, machine, given, look.small, script)
+    }
+
+    /// Holds every saved day against the model: its bytes, the report, the checker and `accept`.
+    fn saved(&mut self, player: &Player, script: &[u8], look: Look) -> Result<(), Failure> {
+        let fail = |difference| Failure::script(script, difference);
+        let mut random = Random::new("saved", script.len() as u64);
+        for (name, expected) in &player.saved {
+            let day = self.programs.take_saved(name).map_err(fail)?;
+            if day != *expected {
+                return Err(fail(format!("the saved day {name} has other bytes than the model's")));
+            }
+            self.report(&day).map_err(fail)?;
+            self.day(&day, &mut random, look.accepts)?;
+        }
+        Ok(())
+    }
+
+    /// Puts a day to the report.
+    pub fn report(&mut self, day: &[u8]) -> Result<(), String> {
+        let printed = self.programs.report(day)?;
+        self.tally.processes += 1;
+        let expected = report_text(day);
+        if printed != expected {
+            return Err(format!("report prints \"{printed}\", the model \"{expected}\""));
+        }
+        let refused = printed.strip_prefix("refused ").and_then(|rest| rest.trim().parse().ok());
+        self.tally.met("report", refused.unwrap_or(0));
+        Ok(())
+    }
+
+    /// Puts lists of many kinds to the checker, on a day; so many of them to `accept`, too.
+    pub fn day(&mut self, day: &[u8], random: &mut Random, accepts: usize) -> Result<(), Failure> {
+        let (opening, log) = day.split_at(day.len().min(OPENING));
+        let history = read_log(log).unwrap_or_default();
+        let asked = lists::questions(random, &transactions(&history), history.len());
+        for (begin, list) in &asked {
+            let list = checker::list_bytes(list);
+            let question =
+                Question { opening: opening.to_vec(), log: log.to_vec(), begin: *begin, list };
+            self.question(&question)?;
+        }
+        for _ in 0..accepts {
+            let (begin, list) = &asked[random.below(asked.len())];
+            self.accept(day, *begin, list)?;
+        }
+        Ok(())
+    }
+
+    /// Puts a question to the proved checker and to the model's; gives the answer.
+    pub fn question(&mut self, question: &Question) -> Result<u8, Failure> {
+        let Question { opening, log, begin, list } = question;
+        let answer = entry(opening, log, *begin, list);
+        self.tally.list(answer);
+        let expected = checker::check(opening, log, *begin, list);
+        if answer != expected {
+            let difference = format!("the checker answers {answer}, the model {expected}");
+            return Err(Failure::question(question, difference));
+        }
+        Ok(answer)
+    }
+
+    /// Puts a list to the program `accept`.
+    pub fn accept(&mut self, day: &[u8], begin: u32, list: &[u16]) -> Result<(), Failure> {
+        let mut words = vec![begin.to_string().into_bytes()];
+        words.extend(list.iter().map(|number| number.to_string().into_bytes()));
+        self.accept_words(day, &words).map_err(|difference| {
+            let (opening, log) = day.split_at(day.len().min(OPENING));
+            let list = checker::list_bytes(list);
+            let question = Question { opening: opening.to_vec(), log: log.to_vec(), begin, list };
+            Failure::question(&question, difference)
+        })
+    }
+
+    /// Puts any words to the program `accept`.
+    pub fn accept_words(&mut self, day: &[u8], words: &[Vec<u8>]) -> Result<(), String> {
+        let printed = self.programs.accept(words, day)?;
+        self.tally.processes += 1;
+        let expected = checker::accept_text(words, day);
+        if printed != expected {
+            return Err(format!("accept prints \"{printed}\", the model \"{expected}\""));
+        }
+        let refused = printed.strip_prefix("refused ").and_then(|rest| rest.trim().parse().ok());
+        self.tally.met("accept", refused.unwrap_or(0));
+        Ok(())
+    }
+}
+
+/// The day that a player has come to, as `save` would write it.
+pub fn day_of(player: &Player) -> Vec<u8> {
+    day_bytes(&player.machine.opening, &player.machine.history)
+}
