@@ -174,7 +174,9 @@ fn spaced_out(writer: &mut Writer) {
         }
         line += &word;
     }
-    line += writer.random.pick(&["", "\r", " ", "#", " # close", "\t#\0", "\r\r"]);
+    line += writer
+        .random
+        .pick(&["", "\r", " ", "#", " # close", "\t#\0", "\r\r"]);
     writer.text(&line);
 }
 

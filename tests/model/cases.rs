@@ -15,7 +15,9 @@ fn files(folder: &Path, ending: &str) -> Vec<PathBuf> {
     let Ok(entries) = fs::read_dir(folder) else {
         return Vec::new();
     };
-    let mut files: Vec<PathBuf> = entries.filter_map(|entry| entry.ok().map(|entry| entry.path())).collect();
+    let mut files: Vec<PathBuf> = entries
+        .filter_map(|entry| entry.ok().map(|entry| entry.path()))
+        .collect();
     files.retain(|path| path.extension().is_some_and(|found| found == ending));
     files.sort();
     files
@@ -47,7 +49,10 @@ pub fn run_script(bench: &mut Bench, script: &[u8]) -> Result<(), Failure> {
             let printed = player.printed.first().cloned().unwrap_or_default();
             if printed != expected.trim() {
                 let difference = format!("line {}: the model prints \"{printed}\"", player.line);
-                return Err(Failure::script(script, format!("{difference}, document 01 says \"{expected}\"")));
+                return Err(Failure::script(
+                    script,
+                    format!("{difference}, document 01 says \"{expected}\""),
+                ));
             }
         }
     }
@@ -59,14 +64,27 @@ fn read_question(path: &Path) -> Result<Question, String> {
     let said = |error| format!("{}: {error}", path.display());
     let day = fs::read(path).map_err(said)?;
     let args = fs::read_to_string(path.with_extension("args")).map_err(said)?;
-    let word = |name: &str| args.lines().find_map(|line| line.strip_prefix(name)).map(str::trim);
+    let word = |name: &str| {
+        args.lines()
+            .find_map(|line| line.strip_prefix(name))
+            .map(str::trim)
+    };
     let number = |name: &str| word(name).and_then(|word| word.parse::<u32>().ok());
-    let opening = number("opening ").map_or(OPENING, |length| length as usize).min(day.len());
+    let opening = number("opening ")
+        .map_or(OPENING, |length| length as usize)
+        .min(day.len());
     let begin = number("begin ").ok_or(format!("{}: no begin record", path.display()))?;
     let list = word("list").unwrap_or("");
     let bytes = (0..list.len() / 2).map(|i| u8::from_str_radix(&list[2 * i..2 * i + 2], 16));
-    let list = bytes.collect::<Result<_, _>>().map_err(|error| format!("{}: {error}", path.display()))?;
-    Ok(Question { opening: day[..opening].to_vec(), log: day[opening..].to_vec(), begin, list })
+    let list = bytes
+        .collect::<Result<_, _>>()
+        .map_err(|error| format!("{}: {error}", path.display()))?;
+    Ok(Question {
+        opening: day[..opening].to_vec(),
+        log: day[opening..].to_vec(),
+        begin,
+        list,
+    })
 }
 
 /// Keeps a failing input under this name; gives the file, if there is something to keep.
@@ -80,8 +98,17 @@ pub fn keep(folder: &Path, name: &str, failure: &Failure) -> Option<PathBuf> {
         }
         Input::Question(question) => {
             let path = folder.join(format!("{name}.day"));
-            let Question { opening, log, begin, list } = question;
-            let args = format!("begin {begin}\nlist {}\nopening {}\n", hex(list), opening.len());
+            let Question {
+                opening,
+                log,
+                begin,
+                list,
+            } = question;
+            let args = format!(
+                "begin {begin}\nlist {}\nopening {}\n",
+                hex(list),
+                opening.len()
+            );
             fs::write(&path, [opening.as_slice(), log].concat()).ok()?;
             fs::write(path.with_extension("args"), args).ok()?;
             Some(path)

@@ -21,7 +21,9 @@ pub fn table_from(bytes: &[u8]) -> Option<Table> {
 
 /// A list as little-endian pairs of bytes.
 pub fn list_bytes(list: &[u16]) -> Vec<u8> {
-    list.iter().flat_map(|number| number.to_le_bytes()).collect()
+    list.iter()
+        .flat_map(|number| number.to_le_bytes())
+        .collect()
 }
 
 /// A list from its bytes; none if they are odd.
@@ -29,7 +31,12 @@ pub fn list_from(bytes: &[u8]) -> Option<Vec<u16>> {
     if bytes.len() % 2 != 0 {
         return None;
     }
-    Some(bytes.chunks(2).map(|two| u16::from_le_bytes([two[0], two[1]])).collect())
+    Some(
+        bytes
+            .chunks(2)
+            .map(|two| u16::from_le_bytes([two[0], two[1]]))
+            .collect(),
+    )
 }
 
 /// The number that the checker answers, for any bytes: 1, 10, 11, 12 in this order, or 0.
@@ -74,17 +81,35 @@ impl<'a> Order<'a> {
         if !self.is_the_company(list) || !self.keeps_every_pair(list) {
             return false;
         }
-        let named = |begin: &u16| self.company.iter().find(|one| one.begin == usize::from(*begin)).copied();
+        let named = |begin: &u16| {
+            self.company
+                .iter()
+                .find(|one| one.begin == usize::from(*begin))
+                .copied()
+        };
         let listed: Vec<&Transaction> = list.iter().filter_map(named).collect();
-        judged_reads_explained(opening, &listed) && listed.iter().all(|one| own_reads_explained(one))
+        judged_reads_explained(opening, &listed)
+            && listed.iter().all(|one| own_reads_explained(one))
     }
 
     /// Whether the list is the company without repeats.
     fn is_the_company(&self, list: &[u16]) -> bool {
-        let times = |begin: usize| list.iter().filter(|number| usize::from(**number) == begin).count();
-        let left_out = self.company.iter().filter(|one| times(one.begin) == 0).count();
+        let times = |begin: usize| {
+            list.iter()
+                .filter(|number| usize::from(**number) == begin)
+                .count()
+        };
+        let left_out = self
+            .company
+            .iter()
+            .filter(|one| times(one.begin) == 0)
+            .count();
         let repeated = self.company.iter().any(|one| times(one.begin) > 1);
-        let strange = list.iter().any(|number| self.company.iter().all(|one| one.begin != usize::from(*number)));
+        let strange = list.iter().any(|number| {
+            self.company
+                .iter()
+                .all(|one| one.begin != usize::from(*number))
+        });
         let most_left_out = if broken(Break::LeftOut) { 1 } else { 0 };
         left_out <= most_left_out && (!repeated || broken(Break::Repeats)) && !strange
     }
@@ -94,10 +119,17 @@ impl<'a> Order<'a> {
         let position: Vec<usize> = self
             .company
             .iter()
-            .map(|one| list.iter().position(|number| usize::from(*number) == one.begin).unwrap_or(usize::MAX))
+            .map(|one| {
+                list.iter()
+                    .position(|number| usize::from(*number) == one.begin)
+                    .unwrap_or(usize::MAX)
+            })
             .collect();
         let all = 0..self.company.len();
-        all.clone().all(|k| all.clone().all(|m| !self.before[k][m] || position[k] < position[m]))
+        all.clone().all(|k| {
+            all.clone()
+                .all(|m| !self.before[k][m] || position[k] < position[m])
+        })
     }
 }
 
@@ -125,8 +157,14 @@ fn judged_reads_explained(opening: &Table, listed: &[&Transaction]) -> bool {
 /// Whether every own read has the transaction's latest earlier written value.
 fn own_reads_explained(one: &Transaction) -> bool {
     one.own_reads.iter().all(|read| {
-        let earlier = one.writes.iter().filter(|write| write.cell == read.cell && write.record < read.record);
-        let latest = earlier.last().map(|write| write.value);
+        let earlier = one
+            .writes
+            .partition_point(|write| write.record < read.record);
+        let latest = one.writes[..earlier]
+            .iter()
+            .rev()
+            .find(|write| write.cell == read.cell);
+        let latest = latest.map(|write| write.value);
         latest == Some(read.value) || broken(Break::OwnValue)
     })
 }

@@ -77,9 +77,15 @@ fn lengthen(random: &mut Random, day: &mut Vec<u8>) {
     let length = day.len();
     match random.below(8) {
         0 => day.push(random.next() as u8),
-        1 => day.resize(length + random.pick(&[15, 16, 17, 32]), random.pick(&[0, 1, 255])),
+        1 => day.resize(
+            length + random.pick(&[15, 16, 17, 32]),
+            random.pick(&[0, 1, 255]),
+        ),
         2 | 3 if length >= OPENING + RECORD => day.extend_from_within(length - RECORD..),
-        4 => day.resize(OPENING + RECORD * (MOST_RECORDS + 1) + random.pick(&[1, 16, 32, 6000]), 0),
+        4 => day.resize(
+            OPENING + RECORD * (MOST_RECORDS + 1) + random.pick(&[1, 16, 32, 6000, 240_000]),
+            0,
+        ),
         5 if length > OPENING + 2 * RECORD => {
             // give ups and begins in turn, until there are as many records as a day has, or one more
             let more = random.pick(&[MOST_RECORDS, MOST_RECORDS + 1]);
@@ -95,7 +101,11 @@ fn lengthen(random: &mut Random, day: &mut Vec<u8>) {
 /// Puts begins and give ups of the first free place behind the records until there are so many, with a true trailer.
 fn fill_up(day: &mut Vec<u8>, records: usize) {
     day.truncate(OPENING + (day.len() - OPENING) / RECORD * RECORD - RECORD);
-    let named = |place: u8| day[OPENING..].chunks(RECORD).any(|record| record[1] == place);
+    let named = |place: u8| {
+        day[OPENING..]
+            .chunks(RECORD)
+            .any(|record| record[1] == place)
+    };
     let place = (0..32).find(|place| !named(*place)).unwrap_or(0);
     let mut kind = 1;
     while day.len() < OPENING + RECORD * records {
@@ -135,7 +145,10 @@ pub fn mend(day: &mut [u8]) {
         return;
     }
     let body = &day[OPENING..length - RECORD];
-    let commits = body.chunks(RECORD).filter(|record| record[0] == 5 || record[0] == 9).count();
+    let commits = body
+        .chunks(RECORD)
+        .filter(|record| record[0] == 5 || record[0] == 9)
+        .count();
     let trailer = trailer_bytes(body.len() / RECORD, commits);
     day[length - RECORD..].copy_from_slice(&trailer);
 }

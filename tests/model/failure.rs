@@ -30,16 +30,25 @@ pub struct Failure {
 impl Failure {
     /// A difference in what a script does.
     pub fn script(script: &[u8], difference: String) -> Failure {
-        Failure { input: Input::Script(script.to_vec()), difference }
+        Failure {
+            input: Input::Script(script.to_vec()),
+            difference,
+        }
     }
 
     /// A difference in what the checker answers.
     pub fn question(question: &Question, difference: String) -> Failure {
-        Failure { input: Input::Question(question.clone()), difference }
+        Failure {
+            input: Input::Question(question.clone()),
+            difference,
+        }
     }
 
     /// A difference that is no case by itself.
     pub fn other(difference: String) -> Failure {
-        Failure { input: Input::Other, difference }
+        Failure {
+            input: Input::Other,
+            difference,
+        }
     }
 }

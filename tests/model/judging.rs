@@ -21,17 +21,19 @@ pub fn moment(one: &Transaction) -> usize {
 }
 
 /// The company: itself and every transaction of the day committed before its moment, by begin record.
+/// The day may have the transaction as it was before the call that is weighed.
 pub fn company<'a>(day: &'a [Transaction], one: &'a Transaction) -> Vec<&'a Transaction> {
     let moment = moment(one);
     let live_readers = broken(Break::LiveReaders);
-    day.iter()
-        .filter(|other| {
-            let committed_before = other.commit.is_some_and(|commit| commit < moment);
-            other.begin == one.begin
-                || committed_before
-                || (live_readers && other.stands == Stands::Live && !other.reads.is_empty())
-        })
-        .collect()
+    let belongs = |other: &&Transaction| {
+        let committed_before = other.commit.is_some_and(|commit| commit < moment);
+        let live_reader = other.stands == Stands::Live && !other.reads.is_empty();
+        other.begin != one.begin && (committed_before || (live_readers && live_reader))
+    };
+    let mut company: Vec<&Transaction> = day.iter().filter(belongs).collect();
+    company.push(one);
+    company.sort_by_key(|member| member.begin);
+    company
 }
 
 /// Real time: K is committed and its commit record is below M's begin record.
@@ -54,7 +56,10 @@ fn write_then_read(k: &Transaction, m: &Transaction) -> bool {
         return false;
     };
     let later = |record: usize| commit < record;
-    !broken(Break::WriteRead) && m.reads.iter().any(|read| later(read.record) && k.written[read.cell])
+    !broken(Break::WriteRead)
+        && m.reads
+            .iter()
+            .any(|read| later(read.record) && k.written[read.cell])
 }
 
 /// Read then write: K made a judged read of a cell before M committed that cell.
@@ -63,7 +68,10 @@ fn read_then_write(k: &Transaction, m: &Transaction) -> bool {
         return false;
     };
     let earlier = |record: usize| record < commit;
-    !broken(Break::ReadWrite) && k.reads.iter().any(|read| earlier(read.record) && m.written[read.cell])
+    !broken(Break::ReadWrite)
+        && k.reads
+            .iter()
+            .any(|read| earlier(read.record) && m.written[read.cell])
 }
 
 /// Whether K stands before M, by one of the four kinds of pair. K and M differ.
@@ -77,7 +85,10 @@ pub fn stands_before(k: &Transaction, m: &Transaction) -> bool {
 
 /// The pairs of a company: in row K and column M, whether K stands before M.
 pub fn pairs(company: &[&Transaction]) -> Vec<Vec<bool>> {
-    company.iter().map(|k| company.iter().map(|m| stands_before(k, m)).collect()).collect()
+    company
+        .iter()
+        .map(|k| company.iter().map(|m| stands_before(k, m)).collect())
+        .collect()
 }
 
 /// How far the depth-first search has come with a transaction.
@@ -109,7 +120,7 @@ pub fn has_cycle(before: &[Vec<bool>]) -> bool {
     (0..before.len()).any(|k| marks[k] == Mark::New && comes_back(before, &mut marks, k))
 }
 
-/// Whether a judged call meets Conflict: the day has the call counted as granted.
+/// Whether a judged call meets Conflict: the transaction has the call counted as granted.
 pub fn conflict(day: &[Transaction], one: &Transaction) -> bool {
     if broken(Break::FirstRead) && one.commit.is_none() && one.reads.len() > 1 {
         return false;
@@ -129,8 +140,15 @@ pub fn given_order(day: &[Transaction], one: &Transaction) -> Option<Vec<u16>> {
     let mut left: Vec<usize> = (0..company.len()).collect();
     let mut order = Vec::new();
     while !left.is_empty() {
-        let mut ready = left.iter().copied().filter(|m| left.iter().all(|k| !before[*k][*m]));
-        let next = if broken(Break::LowestBegin) { ready.last() } else { ready.next() };
+        let mut ready = left
+            .iter()
+            .copied()
+            .filter(|m| left.iter().all(|k| !before[*k][*m]));
+        let next = if broken(Break::LowestBegin) {
+            ready.last()
+        } else {
+            ready.next()
+        };
         let next = next?;
         order.push(company[next].begin as u16);
         left.retain(|m| *m != next);

@@ -7,20 +7,32 @@ use crate::random::Random;
 /// A begin record and a list.
 pub type Asked = (u32, Vec<u16>);
 
-/// At most so many transactions of a day are asked for.
+/// At most so many transactions of a day are asked for; of a long day fewer, since the checker takes longer there.
 const MOST_ASKED: usize = 8;
+const MOST_ASKED_OF_LONG: usize = 2;
+/// A day with more records is a long one.
+const LONG: usize = 100;
 
 /// Questions on a day: lists for its transactions, and begin records that are no begins.
 pub fn questions(random: &mut Random, day: &[Transaction], records: usize) -> Vec<Asked> {
     let mut asked = Vec::new();
     let mut which: Vec<usize> = (0..day.len()).collect();
-    if which.len() > MOST_ASKED {
+    let most = if records > LONG {
+        MOST_ASKED_OF_LONG
+    } else {
+        MOST_ASKED
+    };
+    if which.len() > most {
         random.shuffle(&mut which);
-        which.truncate(MOST_ASKED);
+        which.truncate(most);
     }
     for i in which {
         let one = &day[i];
-        asked.extend(lists(random, day, one, records).into_iter().map(|list| (one.begin as u32, list)));
+        asked.extend(
+            lists(random, day, one, records)
+                .into_iter()
+                .map(|list| (one.begin as u32, list)),
+        );
     }
     let some = asked.last().map_or(vec![1], |last| last.1.clone());
     for begin in no_begins(random, day, records) {
@@ -44,8 +56,16 @@ fn no_begins(random: &mut Random, day: &[Transaction], records: usize) -> Vec<u3
 }
 
 /// Lists for one transaction: the given order, others that keep every pair, and wrong ones.
-fn lists(random: &mut Random, day: &[Transaction], one: &Transaction, records: usize) -> Vec<Vec<u16>> {
-    let company: Vec<u16> = company(day, one).iter().map(|member| member.begin as u16).collect();
+fn lists(
+    random: &mut Random,
+    day: &[Transaction],
+    one: &Transaction,
+    records: usize,
+) -> Vec<Vec<u16>> {
+    let company: Vec<u16> = company(day, one)
+        .iter()
+        .map(|member| member.begin as u16)
+        .collect();
     let order = given_order(day, one).unwrap_or(company.clone());
     let mut reversed = order.clone();
     reversed.reverse();
@@ -58,7 +78,15 @@ fn lists(random: &mut Random, day: &[Transaction], one: &Transaction, records: u
     }
     let another = &day[random.below(day.len())];
     let of_another = given_order(day, another).unwrap_or_default();
-    let mut lists = vec![company, any_order(random, day, one), reversed, shuffled, swapped, of_another, Vec::new()];
+    let mut lists = vec![
+        company,
+        any_order(random, day, one),
+        reversed,
+        shuffled,
+        swapped,
+        of_another,
+        Vec::new(),
+    ];
     lists.extend(spoilt(random, day, &order, records));
     lists.push(order);
     lists
@@ -71,8 +99,11 @@ fn any_order(random: &mut Random, day: &[Transaction], one: &Transaction) -> Vec
     let mut left: Vec<usize> = (0..company.len()).collect();
     let mut order = Vec::new();
     loop {
-        let ready: Vec<usize> =
-            left.iter().copied().filter(|m| left.iter().all(|k| !before[*k][*m])).collect();
+        let ready: Vec<usize> = left
+            .iter()
+            .copied()
+            .filter(|m| left.iter().all(|k| !before[*k][*m]))
+            .collect();
         if ready.is_empty() {
             return order;
         }
@@ -83,7 +114,12 @@ fn any_order(random: &mut Random, day: &[Transaction], one: &Transaction) -> Vec
 }
 
 /// An order with one left out, one repeated, one named twice for another, and one too many.
-fn spoilt(random: &mut Random, day: &[Transaction], order: &[u16], records: usize) -> Vec<Vec<u16>> {
+fn spoilt(
+    random: &mut Random,
+    day: &[Transaction],
+    order: &[u16],
+    records: usize,
+) -> Vec<Vec<u16>> {
     let mut spoilt = Vec::new();
     if !order.is_empty() {
         let mut left_out = order.to_vec();
@@ -95,9 +131,23 @@ fn spoilt(random: &mut Random, day: &[Transaction], order: &[u16], records: usiz
         twice[at] = random.pick(order);
         spoilt.extend([left_out, repeated, twice]);
     }
-    let strange = [0, records as u16 + 1, 65_535, random.next() as u16, random.between(1, records.max(1)) as u16];
-    let others: Vec<u16> = day.iter().map(|one| one.begin as u16).filter(|begin| !order.contains(begin)).collect();
-    let extra = if others.is_empty() || random.chance(300) { random.pick(&strange) } else { random.pick(&others) };
+    let strange = [
+        0,
+        records as u16 + 1,
+        65_535,
+        random.next() as u16,
+        random.between(1, records.max(1)) as u16,
+    ];
+    let others: Vec<u16> = day
+        .iter()
+        .map(|one| one.begin as u16)
+        .filter(|begin| !order.contains(begin))
+        .collect();
+    let extra = if others.is_empty() || random.chance(300) {
+        random.pick(&strange)
+    } else {
+        random.pick(&others)
+    };
     let mut too_many = order.to_vec();
     too_many.insert(random.below(order.len() + 1), extra);
     let mut instead = order.to_vec();

@@ -39,12 +39,20 @@ impl LogWriter {
 
     /// Adds a record.
     fn add(&mut self, kind: Kind, place: usize, cell: usize, value: Value) {
-        self.history.push(Record { kind, place, cell, turn: self.turns[place], value });
+        self.history.push(Record {
+            kind,
+            place,
+            cell,
+            turn: self.turns[place],
+            value,
+        });
     }
 
     /// A begin or a post at any place that is free.
     fn start(&mut self) {
-        let free: Vec<usize> = (0..self.places).filter(|place| self.status[*place] == Status::Free).collect();
+        let free: Vec<usize> = (0..self.places)
+            .filter(|place| self.status[*place] == Status::Free)
+            .collect();
         if free.is_empty() || self.begun == self.most {
             return;
         }
@@ -95,7 +103,9 @@ impl LogWriter {
 
     /// One more record, or none if the one that was chosen does not fit.
     fn step(&mut self) {
-        let live: Vec<usize> = (0..self.places).filter(|place| self.status[*place] == Status::Live).collect();
+        let live: Vec<usize> = (0..self.places)
+            .filter(|place| self.status[*place] == Status::Live)
+            .collect();
         let choice = self.random.below(100);
         if live.is_empty() || choice < 20 {
             return self.start();
@@ -127,7 +137,9 @@ pub fn random_day(mut random: Random, most: usize) -> Vec<u8> {
     };
     let mut opening = [[0; 8]; CELLS];
     if random.chance(500) {
-        opening.iter_mut().for_each(|value| value[7] = random.below(3) as u8);
+        opening
+            .iter_mut()
+            .for_each(|value| value[7] = random.below(3) as u8);
     }
     let mut writer = LogWriter {
         places: random.pick(&[1, 2, 3, 5, 8, 32]),

@@ -36,7 +36,7 @@ use std::path::{Path, PathBuf};
 use std::process::exit;
 
 use failure::Failure;
-use profiles::{Profile, SMALL_LOOK};
+use profiles::Profile;
 use run::{bench, Item};
 use shrink::Effort;
 use tally::Tally;
@@ -83,7 +83,9 @@ fn options() -> Options {
         match argument.as_str() {
             "long" => {
                 options.long = true;
-                options.times = arguments.next_if(|next| !next.starts_with("--")).map_or(12, |next| whole(&next));
+                options.times = arguments
+                    .next_if(|next| !next.starts_with("--"))
+                    .map_or(12, |next| whole(&next));
             }
             "--seed" => options.seed = Some(whole(&arguments.next().unwrap_or_default())),
             "--profile" => options.profile = arguments.next(),
@@ -111,16 +113,24 @@ fn whole(word: &str) -> u64 {
 /// What is run: the seeds of the profiles.
 fn plan(options: &Options) -> Vec<Item> {
     let mut items = Vec::new();
-    let wanted = |profile: &Profile| options.profile.as_ref().is_none_or(|name| name == profile.name);
+    let wanted = |profile: &Profile| {
+        options
+            .profile
+            .as_ref()
+            .is_none_or(|name| name == profile.name)
+    };
     let first = match (options.seed, options.long) {
         (Some(seed), _) => seed,
         (None, true) => FIRST_SEED + 1_000_000,
         (None, false) => FIRST_SEED,
     };
     for profile in profiles::ALL.iter().filter(|profile| wanted(profile)) {
-        let count = match (options.profile.is_some() && options.seed.is_some(), options.short) {
+        let count = match (
+            options.profile.is_some() && options.seed.is_some(),
+            options.short,
+        ) {
             (true, _) => 1,
-            (_, true) => profile.count.div_ceil(12),
+            (_, true) => profile.short,
             _ => profile.count * options.times,
         };
         println!("{:<14} seeds from {first}, {count} of them", profile.name);
@@ -135,14 +145,21 @@ fn run_cases(root: &Path, options: &Options, tally: &mut Tally) -> bool {
     let mut count = match cases::run(&mut bench, &options.cases) {
         Ok(count) => count,
         Err((path, failure)) => {
-            println!("DIFFERENCE found by the case {}: {}", path.display(), failure.difference);
+            println!(
+                "DIFFERENCE found by the case {}: {}",
+                path.display(),
+                failure.difference
+            );
             return false;
         }
     };
     if !options.only_cases {
         for (name, script) in trials::all() {
             if let Err(failure) = cases::run_script(&mut bench, &script) {
-                println!("DIFFERENCE found by the trial {name}: {}", failure.difference);
+                println!(
+                    "DIFFERENCE found by the trial {name}: {}",
+                    failure.difference
+                );
                 return false;
             }
             count += 1;
@@ -156,12 +173,21 @@ fn run_cases(root: &Path, options: &Options, tally: &mut Tally) -> bool {
 /// Makes a failing input small, keeps it, and says what it is.
 fn failed(root: &Path, options: &Options, item: &Item, failure: Failure) {
     let (profile, seed) = (item.profile.name, item.seed);
-    println!("DIFFERENCE found by {profile}, seed {seed}: {}", failure.difference);
+    println!(
+        "DIFFERENCE found by {profile}, seed {seed}: {}",
+        failure.difference
+    );
     let effort = match options.short {
-        true => Effort { inputs: 60, lines: 200_000 },
-        false => Effort { inputs: 2000, lines: 6_000_000 },
+        true => Effort {
+            inputs: 40,
+            lines: 50_000,
+        },
+        false => Effort {
+            inputs: 2000,
+            lines: 1_500_000,
+        },
     };
-    let small = shrink::shrink(&mut bench(root, 0), failure, SMALL_LOOK, effort);
+    let small = shrink::shrink(&mut bench(root, 0), failure, effort);
     println!("made small: {}", small.difference);
     if let Some(path) = cases::keep(&options.cases, &format!("{profile}-{seed}"), &small) {
         println!("kept as {}", path.display());

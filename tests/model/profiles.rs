@@ -10,43 +10,64 @@ use crate::trial::{day_of, Bench, Look};
 use crate::{checker, damage, daylog, logs, scripts, small, smalldays};
 
 /// How a script's days are looked at, unless they are small ones.
-pub const PLAIN_LOOK: Look = Look { accepts: 2, small: 3 };
+pub const PLAIN_LOOK: Look = Look {
+    accepts: 2,
+    small: 3,
+};
 /// How small days, and cases, are looked at.
-pub const SMALL_LOOK: Look = Look { accepts: 4, small: 6 };
+pub const SMALL_LOOK: Look = Look {
+    accepts: 4,
+    small: 6,
+};
 
-/// A profile: its name, how many seeds a default run has of it, and how one is run.
+/// How one seed of a profile is run.
+type Run = fn(&mut Bench, &'static str, u64) -> Result<(), Failure>;
+
+/// A profile: its name, how many seeds a default run has of it, how many a short one, and how one is run.
 pub struct Profile {
     pub name: &'static str,
     pub count: u64,
-    pub run: fn(&mut Bench, &'static str, u64) -> Result<(), Failure>,
+    pub short: u64,
+    pub run: Run,
 }
 
-/// Every profile.
+/// A profile from its parts.
+const fn profile(name: &'static str, count: u64, short: u64, run: Run) -> Profile {
+    Profile {
+        name,
+        count,
+        short,
+        run,
+    }
+}
+
+/// Every profile. Of two-by-two and three-by-one a default run has every choice of plans.
 pub const ALL: &[Profile] = &[
-    Profile { name: "turn-wrap", count: 2, run: run_script },
-    Profile { name: "short", count: 600, run: run_script },
-    Profile { name: "few-cells", count: 600, run: run_script },
-    Profile { name: "many-cells", count: 150, run: run_script },
-    Profile { name: "handles", count: 200, run: run_script },
-    Profile { name: "posts", count: 200, run: run_script },
-    Profile { name: "days", count: 200, run: run_script },
-    Profile { name: "lines", count: 200, run: run_script },
-    Profile { name: "give-ups", count: 20, run: run_script },
-    Profile { name: "full-house", count: 100, run: run_script },
-    Profile { name: "mixed", count: 200, run: run_script },
-    Profile { name: "house", count: 50, run: run_script },
-    Profile { name: "log-full", count: 20, run: run_script },
-    Profile { name: "log-full-none", count: 20, run: run_script },
-    Profile { name: "two-by-two", count: 529, run: run_two_by_two },
-    Profile { name: "two-by-three", count: 100, run: run_two_by_three },
-    Profile { name: "three-by-one", count: 343, run: run_three_by_one },
-    Profile { name: "three-by-two", count: 100, run: run_three_by_two },
-    Profile { name: "small", count: 100, run: run_small },
-    Profile { name: "six", count: 10, run: run_six },
-    Profile { name: "damage", count: 200, run: run_damage },
-    Profile { name: "logs", count: 200, run: run_logs },
-    Profile { name: "entry", count: 100, run: run_entry },
-    Profile { name: "words", count: 4, run: run_words },
+    profile("short", 600, 30, run_script),
+    profile("few-cells", 400, 5, run_script),
+    profile("many-cells", 120, 0, run_script),
+    profile("handles", 150, 5, run_script),
+    profile("posts", 200, 5, run_script),
+    profile("days", 150, 5, run_script),
+    profile("lines", 200, 5, run_script),
+    profile("full-house", 100, 2, run_script),
+    profile("mixed", 250, 0, run_script),
+    profile("house", 60, 0, run_script),
+    profile("give-ups", 20, 0, run_script),
+    profile("damage", 200, 10, run_damage),
+    profile("logs", 250, 5, run_logs),
+    profile("entry", 100, 5, run_entry),
+    profile("words", 8, 1, run_words),
+    profile("log-full", 30, 8, run_script),
+    profile("log-full-none", 15, 1, run_script),
+    profile("turn-wrap", 2, 1, run_script),
+    profile("two-by-two", 1058, 0, run_two_by_two),
+    profile("two-by-three", 150, 0, run_two_by_three),
+    profile("three-by-one", 343, 0, run_three_by_one),
+    profile("two-one-one", 250, 0, run_two_one_one),
+    profile("three-by-two", 100, 0, run_three_by_two),
+    profile("small", 400, 0, run_small),
+    profile("six", 40, 0, run_six),
 ];
 
 /// A script of a profile, played and looked at.
@@ -56,24 +77,44 @@ fn run_script(bench: &mut Bench, name: &'static str, seed: u64) -> Result<(), Fa
 
 /// Every interleaving of two transactions with up to two reads and writes of two cells.
 fn run_two_by_two(bench: &mut Bench, name: &'static str, seed: u64) -> Result<(), Failure> {
-    bench.script(&smalldays::every_interleaving(name, seed, 2, 2, usize::MAX), SMALL_LOOK)
+    bench.script(
+        &smalldays::every_interleaving(name, seed, &[2, 2], usize::MAX),
+        SMALL_LOOK,
+    )
 }
 
-/// Interleavings of two transactions with up to three reads and writes of two cells.
+/// Every interleaving of two transactions with up to three reads and writes of two cells.
 fn run_two_by_three(bench: &mut Bench, name: &'static str, seed: u64) -> Result<(), Failure> {
-    let choice = Random::new(name, seed).next();
-    bench.script(&smalldays::every_interleaving(name, choice, 2, 3, 130), SMALL_LOOK)
+    bench.script(
+        &smalldays::every_interleaving(name, seed, &[3, 3], usize::MAX),
+        SMALL_LOOK,
+    )
 }
 
 /// Every interleaving of three transactions with up to one read or write of two cells.
 fn run_three_by_one(bench: &mut Bench, name: &'static str, seed: u64) -> Result<(), Failure> {
-    bench.script(&smalldays::every_interleaving(name, seed, 3, 1, usize::MAX), SMALL_LOOK)
+    bench.script(
+        &smalldays::every_interleaving(name, seed, &[1, 1, 1], usize::MAX),
+        SMALL_LOOK,
+    )
+}
+
+/// Interleavings of three transactions, one of which has up to two reads and writes of two cells, the others up to one.
+fn run_two_one_one(bench: &mut Bench, name: &'static str, seed: u64) -> Result<(), Failure> {
+    let sizes: [smalldays::Sizes; 3] = [&[2, 1, 1], &[1, 2, 1], &[1, 1, 2]];
+    let sizes = sizes[(seed % 3) as usize];
+    bench.script(
+        &smalldays::every_interleaving(name, seed / 3, sizes, 120),
+        SMALL_LOOK,
+    )
 }
 
 /// Interleavings of three transactions with up to two reads and writes of two cells.
 fn run_three_by_two(bench: &mut Bench, name: &'static str, seed: u64) -> Result<(), Failure> {
-    let choice = Random::new(name, seed).next();
-    bench.script(&smalldays::every_interleaving(name, choice, 3, 2, 100), SMALL_LOOK)
+    bench.script(
+        &smalldays::every_interleaving(name, seed, &[2, 2, 2], 100),
+        SMALL_LOOK,
+    )
 }
 
 /// Random days with up to four transactions.
@@ -103,7 +144,15 @@ fn run_damage(bench: &mut Bench, name: &'static str, seed: u64) -> Result<(), Fa
     let profile = match random.below(60) {
         0 => "log-full",
         1 => "give-ups",
-        _ => random.pick(&["short", "short", "few-cells", "posts", "days", "full-house", "mixed"]),
+        _ => random.pick(&[
+            "short",
+            "short",
+            "few-cells",
+            "posts",
+            "days",
+            "full-house",
+            "mixed",
+        ]),
     };
     let days = days_of(profile, random.next());
     for i in 0..60 {
@@ -121,7 +170,12 @@ fn run_damage(bench: &mut Bench, name: &'static str, seed: u64) -> Result<(), Fa
 fn reported(bench: &mut Bench, day: &[u8]) -> Result<(), Failure> {
     bench.report(day).map_err(|difference| {
         let (opening, log) = day.split_at(day.len().min(OPENING));
-        let question = Question { opening: opening.to_vec(), log: log.to_vec(), begin: 1, list: vec![1, 0] };
+        let question = Question {
+            opening: opening.to_vec(),
+            log: log.to_vec(),
+            begin: 1,
+            list: vec![1, 0],
+        };
         Failure::question(&question, difference)
     })
 }
@@ -173,14 +227,21 @@ fn run_entry(bench: &mut Bench, name: &'static str, seed: u64) -> Result<(), Fai
             _ => {}
         }
         let begin = random.pick(&[0, 1, 1, 1, 2, 3, 65_537, u32::MAX]);
-        bench.question(&Question { opening, log, begin, list })?;
+        bench.question(&Question {
+            opening,
+            log,
+            begin,
+            list,
+        })?;
     }
     Ok(())
 }
 
 /// Any bytes, of a length that a log may have, mostly, and sometimes with the letters at the end.
 fn any_bytes(random: &mut Random) -> Vec<u8> {
-    let length = random.pick(&[1, 15, 16, 17, 32, 48, 160, 1600, 64_000, 64_016, 64_017, 64_032]);
+    let length = random.pick(&[
+        1, 15, 16, 17, 32, 48, 160, 1600, 64_000, 64_016, 64_017, 64_032,
+    ]);
     let most = random.pick(&[2, 10, 256]);
     let mut bytes: Vec<u8> = (0..length).map(|_| random.below(most) as u8).collect();
     if length >= 16 && random.chance(500) {
@@ -192,15 +253,47 @@ fn any_bytes(random: &mut Random) -> Vec<u8> {
 
 /// Words for `accept` that are no numbers, or look so.
 const WORDS: &[&str] = &[
-    "", "x", "1x", "x1", "-1", "+1", " 1", "1 ", "1.0", "0x1", "1e0", "\t1", "#1", "01", "0000000001", "0", "1", "2", "4",
-    "65535", "65536", "065535", "065536", "4294967295", "4294967296", "18446744073709551617", "\u{661}", "--", "-h",
+    "",
+    "x",
+    "1x",
+    "x1",
+    "-1",
+    "+1",
+    " 1",
+    "1 ",
+    "1.0",
+    "0x1",
+    "1e0",
+    "\t1",
+    "#1",
+    "01",
+    "0000000001",
+    "0",
+    "1",
+    "2",
+    "4",
+    "65535",
+    "65536",
+    "065535",
+    "065536",
+    "4294967295",
+    "4294967296",
+    "18446744073709551617",
+    "\u{661}",
+    "--",
+    "-h",
 ];
 
 /// Words of any kind put to the program `accept`, on a day, a damaged one and one that is too short.
 fn run_words(bench: &mut Bench, name: &'static str, seed: u64) -> Result<(), Failure> {
     let mut random = Random::new(name, seed);
     let day = days_of("short", random.next()).pop().unwrap_or_default();
-    let days = [day.clone(), day[..day.len() - 1].to_vec(), day[..100].to_vec(), Vec::new()];
+    let days = [
+        day.clone(),
+        day[..day.len() - 1].to_vec(),
+        day[..100].to_vec(),
+        Vec::new(),
+    ];
     for i in 0..60 {
         let mut words: Vec<Vec<u8>> = Vec::new();
         for _ in 0..random.pick(&[0, 1, 2, 2, 3, 3, 4, 33, 34, 40]) {
@@ -208,7 +301,10 @@ fn run_words(bench: &mut Bench, name: &'static str, seed: u64) -> Result<(), Fai
         }
         let day = &days[if i % 3 == 0 { random.below(4) } else { 0 }];
         bench.accept_words(day, &words).map_err(|difference| {
-            let said: Vec<String> = words.iter().map(|word| format!("{:?}", String::from_utf8_lossy(word))).collect();
+            let said: Vec<String> = words
+                .iter()
+                .map(|word| format!("{:?}", String::from_utf8_lossy(word)))
+                .collect();
             Failure::other(format!("accept {}: {difference}", said.join(" ")))
         })?;
     }

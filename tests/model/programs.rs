@@ -18,7 +18,10 @@ impl Programs {
         let name = format!("nogturshan-model-{}-{thread}", std::process::id());
         let scratch = std::env::temp_dir().join(name);
         fs::create_dir_all(&scratch).expect("a scratch folder");
-        Programs { bin: root.join("target/bin"), scratch }
+        Programs {
+            bin: root.join("target/bin"),
+            scratch,
+        }
     }
 
     /// What a program prints for these words and this input.
@@ -34,7 +37,10 @@ impl Programs {
             .map_err(|error| format!("{program}: {error}"))?;
         if !output.status.success() || !output.stderr.is_empty() {
             let said = String::from_utf8_lossy(&output.stderr).into_owned();
-            return Err(format!("{program} ends with {} and says \"{said}\"", output.status));
+            return Err(format!(
+                "{program} ends with {} and says \"{said}\"",
+                output.status
+            ));
         }
         Ok(output.stdout)
     }

@@ -3,7 +3,7 @@
 //! The model also keeps the history of the day, and judges from that; the books stand beside it as document 01 describes them.
 
 use crate::breaks::{broken, Break};
-use crate::history::{transactions, Kind, Record, Transaction};
+use crate::history::{Day, Kind, Record};
 use crate::judging;
 
 /// Places for transactions.
@@ -62,10 +62,11 @@ pub struct Books {
     pub places: Vec<Place>,
 }
 
-/// A call that is judged: the history with itself counted as granted, and the begin record of its transaction.
+/// A call that is judged: what came before it, the record that it adds if granted, and the begin record of its transaction.
 #[derive(Clone, Debug)]
 pub struct Weighed {
-    pub history: Vec<Record>,
+    pub before: usize,
+    pub record: Record,
     pub begin: usize,
 }
 
@@ -75,6 +76,8 @@ pub struct Machine {
     pub table: Table,
     pub drafts: [Table; PLACES],
     pub history: Vec<Record>,
+    /// The transactions that the history tells of.
+    day: Day,
     /// The table at the opening or the last close.
     pub opening: Table,
     /// What the last call was weighed with, if it was judged.
@@ -99,7 +102,8 @@ impl Place {
     fn sound(&self, records: usize) -> bool {
         let from_begin = |record: usize| self.begin <= record && record <= records;
         let reads_sound = |(first, last): (&usize, &usize)| {
-            (*first, *last) == (0, 0) || (*first != 0 && from_begin(*first) && first <= last && from_begin(*last))
+            (*first, *last) == (0, 0)
+                || (*first != 0 && from_begin(*first) && first <= last && from_begin(*last))
         };
         let all_reads = self.first_read.iter().zip(&self.last_read).all(reads_sound);
         let begun = self.begin != 0 && self.begin <= records;
@@ -121,12 +125,18 @@ fn no_two_the_same(mut numbers: Vec<usize>) -> bool {
 impl Books {
     /// Books with every place free, turns 0, no records.
     fn open() -> Books {
-        Books { records: 0, places: vec![Place::free(0); PLACES] }
+        Books {
+            records: 0,
+            places: vec![Place::free(0); PLACES],
+        }
     }
 
     /// How many transactions are live.
     pub fn live(&self) -> usize {
-        self.places.iter().filter(|place| place.status == Status::Live).count()
+        self.places
+            .iter()
+            .filter(|place| place.status == Status::Live)
+            .count()
     }
 
     /// Whether the books are sound.
@@ -166,6 +176,7 @@ impl Machine {
             table: [[0; 8]; CELLS],
             drafts: [[[0; 8]; CELLS]; PLACES],
             history: Vec::new(),
+            day: Day::new(),
             opening: [[0; 8]; CELLS],
             weighed: None,
         }
@@ -180,17 +191,22 @@ impl Machine {
             self.books.places = turns.into_iter().map(Place::free).collect();
         }
         self.history.clear();
+        self.day = Day::new();
         self.opening = self.table;
     }
 
     /// Begin: the lowest free place and its handle.
     pub fn begin(&mut self) -> (u8, u32) {
         self.weighed = None;
+        let itself = if broken(Break::LogFullBegin) { 0 } else { 1 };
+        let has_room = self.books.has_room(itself);
+        if broken(Break::FullLate) && !has_room {
+            return (LOG_FULL, 0);
+        }
         let Some(place) = self.books.free_place() else {
             return (FULL, 0);
         };
-        let itself = if broken(Break::LogFullBegin) { 0 } else { 1 };
-        if !self.books.has_room(itself) {
+        if !has_room {
             return (LOG_FULL, 0);
         }
         self.hold(place, Status::Live);
@@ -202,8 +218,11 @@ impl Machine {
     /// Write: 8 bytes into the place's draft of that cell; it is not judged.
     pub fn write(&mut self, handle: u32, cell: u32, value: &[u8]) -> u8 {
         self.weighed = None;
+        let late = broken(Break::LentLate)
+            .then(|| self.live_place(handle).err())
+            .flatten();
         let Ok(value) = Value::try_from(value) else {
-            return LENT;
+            return late.unwrap_or(LENT);
         };
         let (place, cell) = match self.named(handle, cell) {
             Ok(found) => found,
@@ -225,12 +244,20 @@ impl Machine {
             Ok(found) => found,
             Err(number) => return (number, None),
         };
-        let late = broken(Break::LogFullRead) && self.books.records + self.books.live() == MOST_RECORDS;
-        if !self.books.has_room(0) && !late {
+        let late =
+            broken(Break::LogFullRead) && self.books.records + self.books.live() == MOST_RECORDS;
+        let first = broken(Break::ConflictFirst)
+            && !self.books.places[place].written[cell]
+            && self.would_conflict(Kind::JudgedRead, place, cell, self.table[cell]);
+        if !self.books.has_room(0) && !late && !first {
             return (LOG_FULL, None);
         }
         if self.books.places[place].written[cell] {
-            let shown = if broken(Break::OwnRead) { self.table[cell] } else { self.drafts[place][cell] };
+            let shown = if broken(Break::OwnRead) {
+                self.table[cell]
+            } else {
+                self.drafts[place][cell]
+            };
             self.record(Kind::OwnRead, place, cell, shown);
             return (GRANTED, Some(shown));
         }
@@ -295,10 +322,11 @@ impl Machine {
         let Ok(value) = Value::try_from(value) else {
             return (LENT, 0);
         };
-        if cell >= CELLS as u32 {
+        let free = self.books.free_place();
+        if cell >= CELLS as u32 && (free.is_some() || !broken(Break::CellLate)) {
             return (CELL, 0);
         }
-        let Some(place) = self.books.free_place() else {
+        let Some(place) = free else {
             return (FULL, 0);
         };
         if !self.books.has_room(0) {
@@ -325,9 +353,8 @@ impl Machine {
         if broken(Break::OrderEnded) && self.books.places[place].status == Status::Committed {
             return (ENDED, Vec::new());
         }
-        let day = transactions(&self.history);
-        let one = begun_at(&day, self.books.places[place].begin);
-        match judging::given_order(&day, one) {
+        let one = self.day.begun_at(self.books.places[place].begin);
+        match one.and_then(|one| judging::given_order(&self.day.transactions, one)) {
             Some(order) => (GRANTED, order),
             None => (UNSOUND, Vec::new()),
         }
@@ -347,6 +374,7 @@ impl Machine {
         }
         self.books.records = 0;
         self.history.clear();
+        self.day = Day::new();
         if !broken(Break::OpeningTable) {
             self.opening = self.table;
         }
@@ -408,21 +436,39 @@ impl Machine {
 
     /// Adds one record.
     fn record(&mut self, kind: Kind, place: usize, cell: usize, value: Value) {
-        let turn = self.books.places[place].turn;
-        self.history.push(Record { kind, place, cell, turn, value });
+        let record = self.record_of(kind, place, cell, value);
+        self.history.push(record);
+        self.day.add(&record);
         self.books.records += 1;
     }
 
-    /// Whether a judged call meets Conflict, weighed with itself counted as granted.
+    /// The record that a call at this place adds.
+    fn record_of(&self, kind: Kind, place: usize, cell: usize, value: Value) -> Record {
+        Record {
+            kind,
+            place,
+            cell,
+            turn: self.books.places[place].turn,
+            value,
+        }
+    }
+
+    /// Whether a read of the table's value, or a commit, by a live one would meet Conflict, weighed with itself counted as granted.
+    pub fn would_conflict(&self, kind: Kind, place: usize, cell: usize, value: Value) -> bool {
+        let record = self.record_of(kind, place, cell, value);
+        judging::conflict(&self.day.transactions, &self.day.with(&record))
+    }
+
+    /// Whether a judged call meets Conflict; what it was weighed with is kept.
     fn is_conflict(&mut self, kind: Kind, place: usize, cell: usize, value: Value) -> bool {
-        let turn = self.books.places[place].turn;
+        let record = self.record_of(kind, place, cell, value);
         let begin = self.books.places[place].begin;
-        let mut history = self.history.clone();
-        history.push(Record { kind, place, cell, turn, value });
-        let day = transactions(&history);
-        let conflict = judging::conflict(&day, begun_at(&day, begin));
-        self.weighed = Some(Weighed { history, begin });
-        conflict
+        self.weighed = Some(Weighed {
+            before: self.history.len(),
+            record,
+            begin,
+        });
+        self.would_conflict(kind, place, cell, value)
     }
 
     /// Conflict: one record, and the place is free.
@@ -435,23 +481,24 @@ impl Machine {
 
     /// Whether the books are sound and say of each held place what the history says of its transaction.
     pub fn books_tell_the_history(&self) -> bool {
-        let day = transactions(&self.history);
         let told = |place: &Place| {
-            let Some(one) = day.iter().find(|one| one.begin == place.begin) else {
+            let Some(one) = self.day.begun_at(place.begin) else {
                 return place.status == Status::Free;
             };
-            let reads_of = |cell: usize| one.reads.iter().filter(move |read| read.cell == cell).map(|read| read.record);
+            let reads_of = |cell: usize| {
+                one.reads
+                    .iter()
+                    .filter(move |read| read.cell == cell)
+                    .map(|read| read.record)
+            };
             let reads_agree = (0..CELLS).all(|cell| {
                 place.first_read[cell] == reads_of(cell).min().unwrap_or(0)
                     && place.last_read[cell] == reads_of(cell).max().unwrap_or(0)
             });
             place.commit == one.commit.unwrap_or(0) && place.written == one.written && reads_agree
         };
-        self.books.records == self.history.len() && self.books.sound() && self.books.places.iter().all(told)
+        self.books.records == self.history.len()
+            && self.books.sound()
+            && self.books.places.iter().all(told)
     }
-}
-
-/// The transaction with this begin record.
-pub fn begun_at(day: &[Transaction], begin: usize) -> &Transaction {
-    day.iter().find(|one| one.begin == begin).expect("a held place has a begin record of the day")
 }

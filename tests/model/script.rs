@@ -15,7 +15,9 @@ pub fn number(word: &[u8]) -> Option<u32> {
     if word.is_empty() || !word.iter().all(u8::is_ascii_digit) {
         return None;
     }
-    word.iter().try_fold(0u32, |sum, digit| sum.checked_mul(10)?.checked_add(u32::from(digit - b'0')))
+    word.iter().try_fold(0u32, |sum, digit| {
+        sum.checked_mul(10)?.checked_add(u32::from(digit - b'0'))
+    })
 }
 
 /// A value: an even number of hexadecimal digits of either case, two a byte.
@@ -45,7 +47,9 @@ pub fn lines(script: &[u8]) -> Vec<&[u8]> {
 /// The words of a line: a comment is left out; spaces, tabs and carriage returns separate.
 fn words(line: &[u8]) -> Vec<&[u8]> {
     let said = line.split(|byte| *byte == b'#').next().unwrap_or(&[]);
-    said.split(|byte| b" \t\r".contains(byte)).filter(|word| !word.is_empty()).collect()
+    said.split(|byte| b" \t\r".contains(byte))
+        .filter(|word| !word.is_empty())
+        .collect()
 }
 
 /// An order that was given: the begin record of its transaction, and the order.
@@ -88,7 +92,11 @@ impl Player {
         self.given = None;
         self.machine.weighed = None;
         let words = words(line);
-        let longest = if broken(Break::LineLength) { LINE + 1 } else { LINE };
+        let longest = if broken(Break::LineLength) {
+            LINE + 1
+        } else {
+            LINE
+        };
         if line.len() <= longest && (words.is_empty() || self.call(&words).is_some()) {
             return;
         }
@@ -104,7 +112,9 @@ impl Player {
                 self.says_handle("begin", answer, handle);
             }
             (b"write", [handle, cell, bytes]) => {
-                let answer = self.machine.write(number(handle)?, number(cell)?, &value(bytes)?);
+                let answer = self
+                    .machine
+                    .write(number(handle)?, number(cell)?, &value(bytes)?);
                 self.says("write", answer);
             }
             (b"read", [handle, cell]) => {
@@ -188,7 +198,10 @@ impl Player {
     /// The table's 32 values.
     fn table(&mut self) {
         let bytes = table_bytes(&self.machine.table);
-        let values: String = bytes.chunks(8).map(|value| format!(" {}", hex(value))).collect();
+        let values: String = bytes
+            .chunks(8)
+            .map(|value| format!(" {}", hex(value)))
+            .collect();
         self.printed.push(format!("table{values}"));
     }
 
@@ -201,7 +214,11 @@ impl Player {
     /// Saves the day so far: the opening table and the log as it stands. A name with a slash or a full stop alone stands for no file.
     fn save(&mut self, name: &[u8]) {
         let name = String::from_utf8_lossy(name).into_owned();
-        let answer = if name.contains('/') || name == "." { LENT } else { GRANTED };
+        let answer = if name.contains('/') || name == "." {
+            LENT
+        } else {
+            GRANTED
+        };
         if answer == GRANTED {
             let day = day_bytes(&self.machine.opening, &self.machine.history);
             self.saved.insert(name, day);

@@ -95,13 +95,22 @@ const PLAIN: &[Plain] = &[
 /// Takes a plain profile up: cells, live ones, values.
 fn take_up(writer: &mut Writer, plain: &Plain) -> usize {
     writer.cells = writer.random.between(plain.cells.0, plain.cells.1);
-    writer.values = writer.random.pick(&[Values::Few, Values::Unique, Values::Any]);
+    writer.values = writer
+        .random
+        .pick(&[Values::Few, Values::Unique, Values::Any]);
     writer.wild = plain.wild;
     writer.random.between(plain.live.0, plain.live.1)
 }
 
 /// One call or so of a plain profile.
 fn step(writer: &mut Writer, plain: &Plain, live: usize) {
+    if writer.random.chance(50) && writer.conflict() {
+        return;
+    }
+    let few_live = 2 * writer.live() < live && !writer.places(Status::Free).is_empty();
+    if few_live && writer.random.chance(400) {
+        return writer.begin();
+    }
     match writer.random.weighted(&plain.weights) {
         0 if writer.live() < live => writer.begin(),
         0 => writer.read(),
@@ -155,20 +164,24 @@ fn mixed(writer: &mut Writer) {
 }
 
 /// Calls that add records and leave the live ones as they are, until records plus live ones come to this.
+/// Only some cells are written, so that reads of the others are judged.
 fn fill(writer: &mut Writer, target: usize) {
+    let cells = writer.cells;
     while writer.records() + writer.live() < target {
         let room = target - writer.records() - writer.live();
         match writer.random.below(8) {
-            0 | 1 => writer.read(),
-            2 if room >= 2 && !writer.places(Status::Free).is_empty() => {
+            0..=2 => writer.read(),
+            3 if room >= 2 && !writer.places(Status::Free).is_empty() => {
+                let place = writer.places(Status::Free)[0];
                 writer.begin();
-                let place = writer.places(Status::Live).into_iter().max_by_key(|place| {
-                    writer.player.machine.books.places[*place].begin
-                });
-                let line = format!("giveup {}", writer.handle_of(place.unwrap_or(0)));
+                let line = format!("giveup {}", writer.handle_of(place));
                 writer.text(&line);
             }
-            _ => writer.write(),
+            _ => {
+                writer.cells = cells / 2;
+                writer.write();
+                writer.cells = cells;
+            }
         }
         if writer.live() == 0 {
             writer.begin();
@@ -176,11 +189,18 @@ fn fill(writer: &mut Writer, target: usize) {
     }
 }
 
-/// Every call that can meet Log full, in any order.
+/// Every call that can meet Log full, in any order, each at most once.
 fn all_that_meet_log_full(writer: &mut Writer) {
     let mut calls = [0, 1, 2, 3];
     writer.random.shuffle(&mut calls);
     for call in calls {
+        // one record short of the bound a begin is refused already: it is tried there before the room is gone
+        if writer.records() + writer.live() + 1 == MOST_RECORDS && writer.random.chance(700) {
+            writer.begin();
+        }
+        if writer.random.chance(400) {
+            writer.conflict();
+        }
         if writer.random.chance(700) {
             match call {
                 0 => writer.begin(),
@@ -196,11 +216,16 @@ fn all_that_meet_log_full(writer: &mut Writer) {
 fn log_full(writer: &mut Writer) {
     writer.cells = writer.random.between(2, 8);
     writer.values = Values::Any;
-    let live = writer.random.pick(&[1, 1, 1, 2, 3, 8, 31]);
+    let live = writer.random.pick(&[1, 1, 2, 3, 3, 8, 31]);
     for _ in 0..live {
         writer.begin();
     }
-    for _ in 0..writer.random.below(PLACES - live + 1).min(6) {
+    let posts = if writer.random.chance(400) {
+        PLACES - live
+    } else {
+        writer.random.below(6).min(PLACES - live)
+    };
+    for _ in 0..posts {
         writer.post();
     }
     let target = writer.random.between(MOST_RECORDS - 5, MOST_RECORDS - 1);
@@ -233,21 +258,26 @@ fn log_full_none_live(writer: &mut Writer) {
     for _ in 0..writer.random.below(4) {
         writer.post();
     }
-    while writer.records() + 3 <= target {
+    while writer.records() < target {
+        if writer.records() + 1 == target {
+            writer.post();
+            continue;
+        }
         writer.begin();
         let handle = writer.handle(Status::Live);
-        let mut calls = writer.random.between(1, 60).min(target - writer.records() - 1);
-        if writer.records() + calls + 3 > target {
-            calls = target - writer.records() - 1;
-        }
-        for _ in 1..calls {
+        let most = (target - writer.records() - 1).min(writer.random.between(0, 60));
+        for _ in 0..most {
             let line = format!("read {handle} {}", writer.cell());
             writer.text(&line);
         }
-        writer.end_all();
-    }
-    while writer.records() < target {
-        writer.post();
+        if writer.live() > 0 {
+            let call = if writer.random.chance(50) {
+                "commit"
+            } else {
+                "giveup"
+            };
+            writer.text(&format!("{call} {handle}"));
+        }
     }
     for _ in 0..6 {
         all_that_meet_log_full(writer);
@@ -336,7 +366,13 @@ fn around_the_wrap(writer: &mut Writer, place: usize, old: u32) {
         }
         writer.begin();
         let right = writer.handle_of(place);
-        for handle in [right, right ^ 2_097_120, old, place as u32, 2_097_120 + place as u32] {
+        for handle in [
+            right,
+            right ^ 2_097_120,
+            old,
+            place as u32,
+            2_097_120 + place as u32,
+        ] {
             let call = writer.random.pick(&["order", "write", "read"]);
             let line = match call {
                 "order" => format!("order {handle}"),

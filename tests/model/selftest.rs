@@ -13,13 +13,17 @@ use crate::run::bench;
 /// This program again, with a rule broken and cases of its own.
 fn broken_run(name: &str, folder: &Path, argument: &str) -> Result<Output, String> {
     let program = std::env::current_exe().map_err(|error| error.to_string())?;
-    let run = Command::new(program).args(["--break", name, argument, "--cases"]).arg(folder).output();
+    let run = Command::new(program)
+        .args(["--break", name, argument, "--cases"])
+        .arg(folder)
+        .output();
     run.map_err(|error| error.to_string())
 }
 
 /// Whether a broken rule is found; gives the line that says by what.
 fn found(root: &Path, name: &str, thread: usize) -> Result<String, String> {
-    let folder = std::env::temp_dir().join(format!("nogturshan-broken-{}-{name}", std::process::id()));
+    let folder =
+        std::env::temp_dir().join(format!("nogturshan-broken-{}-{name}", std::process::id()));
     let result = found_with(root, name, &folder, thread);
     let _ = fs::remove_dir_all(&folder);
     result
@@ -29,7 +33,9 @@ fn found(root: &Path, name: &str, thread: usize) -> Result<String, String> {
 fn found_with(root: &Path, name: &str, folder: &Path, thread: usize) -> Result<String, String> {
     let first = broken_run(name, folder, "--short")?;
     let printed = String::from_utf8_lossy(&first.stdout).into_owned();
-    let line = printed.lines().find_map(|line| line.strip_prefix("DIFFERENCE "));
+    let line = printed
+        .lines()
+        .find_map(|line| line.strip_prefix("DIFFERENCE "));
     let Some(line) = line.filter(|_| first.status.code() == Some(1)) else {
         return Err(format!("{name}: no difference is found"));
     };
@@ -40,7 +46,10 @@ fn found_with(root: &Path, name: &str, folder: &Path, thread: usize) -> Result<S
     match cases::run(&mut bench(root, 100 + thread), folder) {
         Ok(1) => Ok(line.to_string()),
         Ok(count) => Err(format!("{name}: {count} cases were kept")),
-        Err((_, failure)) => Err(format!("{name}: the kept case fails without the break: {}", failure.difference)),
+        Err((_, failure)) => Err(format!(
+            "{name}: the kept case fails without the break: {}",
+            failure.difference
+        )),
     }
 }
 
@@ -52,7 +61,9 @@ pub fn run(root: &Path, threads: usize) -> bool {
         for thread in 0..threads {
             let (next, lines) = (&next, &lines);
             scope.spawn(move || {
-                while let Some((name, _, wrong)) = breaks::ALL.get(next.fetch_add(1, Ordering::SeqCst)) {
+                while let Some((name, _, wrong)) =
+                    breaks::ALL.get(next.fetch_add(1, Ordering::SeqCst))
+                {
                     let found = found(root, name, thread);
                     let line = found.map(|by| format!("  {name:<17} ({wrong}) {by}"));
                     lines.lock().expect("no thread panics").push((*name, line));
@@ -63,7 +74,11 @@ pub fn run(root: &Path, threads: usize) -> bool {
     let lines = lines.into_inner().expect("no thread panics");
     let mut all = true;
     for (name, _, _) in breaks::ALL {
-        match lines.iter().find(|line| line.0 == *name).map(|line| &line.1) {
+        match lines
+            .iter()
+            .find(|line| line.0 == *name)
+            .map(|line| &line.1)
+        {
             Some(Ok(line)) => println!("{line}"),
             Some(Err(line)) => {
                 println!("  {line}");

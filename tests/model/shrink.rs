@@ -1,9 +1,10 @@
 //! A failing input made smaller while it still fails.
 
 use crate::checker::{list_bytes, list_from};
-use crate::daylog::{OPENING, RECORD};
 use crate::damage::mend;
+use crate::daylog::{OPENING, RECORD};
 use crate::failure::{Failure, Input, Question};
+use crate::profiles::{PLAIN_LOOK, SMALL_LOOK};
 use crate::script::lines;
 use crate::trial::{Bench, Look};
 
@@ -27,9 +28,10 @@ impl Effort {
 }
 
 /// The failure with the smallest input found.
-pub fn shrink(bench: &mut Bench, failure: Failure, look: Look, effort: Effort) -> Failure {
+pub fn shrink(bench: &mut Bench, failure: Failure, effort: Effort) -> Failure {
     match &failure.input {
         Input::Script(script) => {
+            let look = look_that_fails(bench, script);
             let lines: Vec<Vec<u8>> = lines(script).into_iter().map(<[u8]>::to_vec).collect();
             let mut fails = |lines: &Vec<Vec<u8>>| {
                 let failed = bench.script(&joined(lines), look).err()?;
@@ -45,9 +47,20 @@ pub fn shrink(bench: &mut Bench, failure: Failure, look: Look, effort: Effort) -
     }
 }
 
+/// The look that a script fails with: the plain one if that is enough.
+fn look_that_fails(bench: &mut Bench, script: &[u8]) -> Look {
+    match bench.script(script, PLAIN_LOOK) {
+        Err(_) => PLAIN_LOOK,
+        Ok(()) => SMALL_LOOK,
+    }
+}
+
 /// Lines as a script.
 fn joined(lines: &[Vec<u8>]) -> Vec<u8> {
-    lines.iter().flat_map(|line| [line.as_slice(), b"\n"].concat()).collect()
+    lines
+        .iter()
+        .flat_map(|line| [line.as_slice(), b"\n"].concat())
+        .collect()
 }
 
 /// Puts a question to the checker, to `accept` and to the report, as far as they take it.
@@ -61,10 +74,12 @@ pub fn asked(bench: &mut Bench, question: &Question) -> Result<(), Failure> {
     if let Some(list) = list_from(&question.list) {
         bench.accept(&day, question.begin, &list)?;
     }
-    bench.report(&day).map_err(|difference| Failure::question(question, difference))
+    bench
+        .report(&day)
+        .map_err(|difference| Failure::question(question, difference))
 }
 
-/// Drops lines by halves, by quarters and so on, then one by one until none can go; then makes values simple.
+/// Drops lines by halves, by quarters and so on, then one by one until none can go; then begins, and makes values simple.
 fn smaller_script(
     mut lines: Vec<Vec<u8>>,
     mut failure: Failure,
@@ -91,60 +106,118 @@ fn smaller_script(
             part /= 2;
         }
     }
-    for i in 0..lines.len() {
-        let mut simpler = lines.clone();
-        simpler[i] = simple_value(&lines[i]);
-        if simpler != lines && effort.spend(lines.len()) {
-            if let Some(found) = fails(&simpler) {
-                (lines, failure) = (simpler, found);
+    for simpler in [without_begin, with_simple_value] {
+        let mut i = 0;
+        while i < lines.len() {
+            match simpler(&lines, i).filter(|other| effort.spend(other.len())) {
+                None => i += 1,
+                Some(other) => match fails(&other) {
+                    Some(found) => (lines, failure) = (other, found),
+                    None => i += 1,
+                },
             }
         }
     }
     failure
 }
 
-/// A line with its value made 0000000000000001, if it has one of 8 bytes.
-fn simple_value(line: &[u8]) -> Vec<u8> {
-    let text = String::from_utf8_lossy(line).into_owned();
-    let simple = |word: &str| word.len() == 16 && word.bytes().all(|byte| byte.is_ascii_hexdigit());
-    let words: Vec<&str> = text.split(' ').map(|word| if simple(word) { "0000000000000001" } else { word }).collect();
-    words.join(" ").into_bytes()
+/// The lines without one begin, the handles behind it lowered by a place.
+fn without_begin(lines: &[Vec<u8>], at: usize) -> Option<Vec<Vec<u8>>> {
+    if lines[at] != b"begin" {
+        return None;
+    }
+    let lowered = |line: &Vec<u8>| {
+        let text = String::from_utf8_lossy(line).into_owned();
+        let mut words: Vec<String> = text.split(' ').map(str::to_string).collect();
+        let on_handle = ["read", "write", "commit", "giveup", "order"].contains(&words[0].as_str());
+        let handle = words.get(1).and_then(|word| word.parse::<u32>().ok());
+        if let (true, Some(handle)) = (on_handle, handle.filter(|handle| handle % 32 > 0)) {
+            words[1] = (handle - 1).to_string();
+        }
+        words.join(" ").into_bytes()
+    };
+    Some(
+        lines[..at]
+            .iter()
+            .cloned()
+            .chain(lines[at + 1..].iter().map(lowered))
+            .collect(),
+    )
 }
 
-/// Drops records one by one, with the trailer mended and the numbers behind them counted anew; then numbers of the list.
+/// The lines with the value in one of them made 0000000000000001, if it is 8 bytes and another.
+fn with_simple_value(lines: &[Vec<u8>], at: usize) -> Option<Vec<Vec<u8>>> {
+    let text = String::from_utf8_lossy(&lines[at]).into_owned();
+    let simple = |word: &str| word.len() == 16 && word.bytes().all(|byte| byte.is_ascii_hexdigit());
+    let words: Vec<&str> = text
+        .split(' ')
+        .map(|word| {
+            if simple(word) {
+                "0000000000000001"
+            } else {
+                word
+            }
+        })
+        .collect();
+    let mut other = lines.to_vec();
+    other[at] = words.join(" ").into_bytes();
+    (other != lines).then_some(other)
+}
+
+/// Drops records by halves, by quarters and so on, then one by one, with the trailer mended; then numbers of the list.
 fn smaller_question(
     mut question: Question,
     mut failure: Failure,
     mut effort: Effort,
     fails: &mut dyn FnMut(&Question) -> Option<Failure>,
 ) -> Failure {
-    loop {
-        let records = question.log.len() / RECORD;
-        let numbers = question.list.len() / 2;
-        let mut tries = (1..=records.saturating_sub(1)).rev().filter_map(|record| without_record(&question, record));
-        let mut shorter = (0..numbers).map(|i| without_number(&question, i));
-        let found = tries.by_ref().chain(shorter.by_ref()).find_map(|fewer| {
-            if !effort.spend(records) {
-                return None;
+    let mut part = (question.log.len() / RECORD).div_ceil(2);
+    while part > 0 {
+        let mut dropped = false;
+        let mut start = 1;
+        while start < question.log.len() / RECORD {
+            let end = (start + part).min(question.log.len() / RECORD);
+            let fewer = without_records(&question, start, end).filter(|_| effort.spend(end));
+            match fewer.and_then(|fewer| fails(&fewer).map(|found| (fewer, found))) {
+                Some((fewer, found)) => (question, failure, dropped) = (fewer, found, true),
+                None => start += part,
             }
-            fails(&fewer).map(|found| (fewer, found))
-        });
-        match found {
-            Some((fewer, found)) => (question, failure) = (fewer, found),
-            None => return failure,
+        }
+        if !(part == 1 && dropped) {
+            part /= 2;
         }
     }
+    let mut at = 0;
+    while 2 * at + 1 < question.list.len() {
+        let mut fewer = question.clone();
+        fewer.list.drain(2 * at..2 * at + 2);
+        match fails(&fewer) {
+            Some(found) => (question, failure) = (fewer, found),
+            None => at += 1,
+        }
+    }
+    failure
 }
 
-/// A question without one record of its log; numbers of later records go down by one.
-fn without_record(question: &Question, record: usize) -> Option<Question> {
+/// A question without the records from `start` up to `end`; numbers of later records go down.
+fn without_records(question: &Question, start: usize, end: usize) -> Option<Question> {
     let list = list_from(&question.list)?;
-    let lower = |number: u32| if number as usize > record { number - 1 } else { number };
-    let kept = list.iter().filter(|number| usize::from(**number) != record);
-    let list: Vec<u16> = kept.map(|number| lower(u32::from(*number)) as u16).collect();
+    let lower = |number: u32| {
+        if number as usize >= end {
+            number - (end - start) as u32
+        } else {
+            number
+        }
+    };
+    let kept = list
+        .iter()
+        .filter(|number| !(start..end).contains(&usize::from(**number)));
+    let list: Vec<u16> = kept
+        .map(|number| lower(u32::from(*number)) as u16)
+        .collect();
     let mut day = vec![0; OPENING];
-    day.extend(&question.log[..RECORD * (record - 1)]);
-    day.extend(&question.log[RECORD * record..]);
+    day.extend(&question.log[..RECORD * (start - 1)]);
+    day.extend(&question.log[RECORD * (end - 1)..]);
     mend(&mut day);
     Some(Question {
         opening: question.opening.clone(),
@@ -152,11 +225,4 @@ fn without_record(question: &Question, record: usize) -> Option<Question> {
         begin: lower(question.begin),
         list: list_bytes(&list),
     })
-}
-
-/// A question without one number of its list.
-fn without_number(question: &Question, at: usize) -> Question {
-    let mut fewer = question.clone();
-    fewer.list.drain(2 * at..2 * at + 2);
-    fewer
 }

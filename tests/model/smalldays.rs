@@ -27,27 +27,29 @@ pub fn random_days(name: &str, seed: u64, most: usize) -> Vec<u8> {
 /// One random day with so many transactions at most; after some granted calls the orders are asked for.
 fn random_day(writer: &mut Writer, transactions: usize) {
     let mut begun = 0;
-    for _ in 0..writer.random.between(3 * transactions, 7 * transactions) {
+    let together = writer.random.between(1, transactions);
+    for _ in 0..writer.random.between(4 * transactions, 8 * transactions) {
+        if writer.random.chance(300) && writer.conflict() {
+            continue;
+        }
+        let may_begin = begun < transactions;
         let live = writer.live();
-        match writer.random.below(24) {
-            0..=5 if begun < transactions => {
-                begun += 1;
-                writer.begin();
-            }
-            6 if begun < transactions => {
+        match writer.random.below(20) {
+            0 if may_begin => {
                 begun += 1;
                 writer.post();
             }
+            1..=9 if may_begin && live < together => {
+                begun += 1;
+                writer.begin();
+            }
             _ if live == 0 => continue,
-            7..=13 => writer.read(),
-            14..=18 => writer.write(),
-            19 => writer.give_up(),
+            1..=9 => writer.read(),
+            10..=15 => writer.write(),
+            16 => writer.give_up(),
             _ => writer.commit(),
         }
-        if begun == transactions && live == 0 {
-            break;
-        }
-        let (one, all) = if transactions < 5 { (500, 50) } else { (20, 3) };
+        let (one, all) = if transactions < 5 { (300, 50) } else { (20, 3) };
         if writer.random.chance(one) {
             writer.order();
         } else if writer.random.chance(all) {
@@ -101,7 +103,9 @@ fn interleavings(lengths: &[usize]) -> Vec<Vec<usize>> {
         for path in &all {
             let taken = |who: usize| path.iter().filter(|one| **one == who).count();
             let started = (0..lengths.len()).filter(|who| taken(*who) > 0).count();
-            for who in (0..lengths.len()).filter(|who| *who <= started && taken(*who) < lengths[*who]) {
+            for who in
+                (0..lengths.len()).filter(|who| *who <= started && taken(*who) < lengths[*who])
+            {
                 longer.push([path.clone(), vec![who]].concat());
             }
         }
@@ -110,15 +114,15 @@ fn interleavings(lengths: &[usize]) -> Vec<Vec<usize>> {
     all
 }
 
-/// Writes the next call of a transaction; gives its handle once it has one.
-fn next_call(writer: &mut Writer, plan: &Plan, done: usize, handle: &mut u32) {
+/// Writes the next call of a transaction with this value, if it has one; gives its handle once it is answered.
+fn next_call(writer: &mut Writer, plan: &Plan, done: usize, value: usize, handle: &mut u32) {
     let line = match plan {
-        Plan::Post(cell) => format!("post {cell} {}", writer.value()),
+        Plan::Post(cell) => format!("post {cell} {value:016x}"),
         Plan::Calls(_) if done == 0 => "begin".to_string(),
         Plan::Calls(calls) if done > calls.len() => format!("commit {handle}"),
         Plan::Calls(calls) => match calls[done - 1] {
             (false, cell) => format!("read {handle} {cell}"),
-            (true, cell) => format!("write {handle} {cell} {}", writer.value()),
+            (true, cell) => format!("write {handle} {cell} {value:016x}"),
         },
     };
     writer.text(&line);
@@ -129,7 +133,7 @@ fn next_call(writer: &mut Writer, plan: &Plan, done: usize, handle: &mut u32) {
     }
 }
 
-/// One day for one interleaving. A transaction that met Conflict makes no more calls.
+/// One day for one interleaving. A transaction that met Conflict makes no more calls. Values are unique, or all zero.
 fn interleaved_day(writer: &mut Writer, plans: &[Plan], path: &[usize]) {
     let mut handles = vec![0; plans.len()];
     let mut done = vec![0; plans.len()];
@@ -138,7 +142,12 @@ fn interleaved_day(writer: &mut Writer, plans: &[Plan], path: &[usize]) {
         if over[*who] {
             continue;
         }
-        next_call(writer, &plans[*who], done[*who], &mut handles[*who]);
+        let value = if writer.values == Values::Unique {
+            1 + 16 * who + done[*who]
+        } else {
+            0
+        };
+        next_call(writer, &plans[*who], done[*who], value, &mut handles[*who]);
         done[*who] += 1;
         over[*who] = writer.player.printed[0].ends_with(" 9");
         let judged = writer.player.machine.weighed.is_some();
@@ -150,19 +159,27 @@ fn interleaved_day(writer: &mut Writer, plans: &[Plan], path: &[usize]) {
     writer.text("open");
 }
 
-/// How many choices of plans there are for so many transactions with so many reads and writes each.
-pub fn choices(transactions: u32, most: usize) -> u64 {
-    (plans(most).len() as u64).pow(transactions)
+/// Which plans an enumeration has: for each transaction at most so many reads and writes.
+pub type Sizes = &'static [usize];
+
+/// How many choices of plans there are.
+pub fn choices(sizes: Sizes) -> u64 {
+    sizes.iter().map(|most| plans(*most).len() as u64).product()
 }
 
-/// A script with a day for each interleaving of one choice of plans, or of so many of them taken at random.
-pub fn every_interleaving(name: &str, seed: u64, transactions: u32, most: usize, days: usize) -> Vec<u8> {
+/// A script with a day for each interleaving of one choice of plans, or for so many of them taken at random.
+/// Seeds that follow each other name choices that lie far apart; as many seeds as there are choices name each of them once.
+pub fn every_interleaving(name: &str, seed: u64, sizes: Sizes, days: usize) -> Vec<u8> {
     let mut writer = Writer::new(Random::new(name, seed));
-    writer.values = writer.random.pick(&[Values::Few, Values::Unique]);
-    let all = plans(most);
-    let mut choice = seed % choices(transactions, most);
+    writer.values = if seed / choices(sizes) % 2 == 0 {
+        Values::Unique
+    } else {
+        Values::Few
+    };
+    let mut choice = (seed % choices(sizes)) * 1_000_003 % choices(sizes);
     let mut chosen = Vec::new();
-    for _ in 0..transactions {
+    for most in sizes {
+        let all = plans(*most);
         chosen.push(all[(choice % all.len() as u64) as usize].clone());
         choice /= all.len() as u64;
     }

@@ -38,7 +38,9 @@ const REACHABLE: &[(&str, &[u8])] = &[
 ];
 
 /// The calls of the machine itself.
-const CALLS: &[&str] = &["begin", "read", "write", "commit", "giveup", "post", "order", "close", "open"];
+const CALLS: &[&str] = &[
+    "begin", "read", "write", "commit", "giveup", "post", "order", "close", "open",
+];
 
 impl Tally {
     /// A call met a number.
@@ -76,19 +78,29 @@ impl Tally {
 
     /// How many calls the machine was given.
     pub fn calls(&self) -> u64 {
-        self.numbers.iter().filter(|(key, _)| CALLS.contains(&key.0)).map(|(_, count)| count).sum()
+        self.numbers
+            .iter()
+            .filter(|(key, _)| CALLS.contains(&key.0))
+            .map(|(_, count)| count)
+            .sum()
     }
 
     /// The coverage table: call by number.
     pub fn print_numbers(&self) {
         print!("{:<8}", "");
-        (0..=12).filter(|number| *number != 2).for_each(|number| print!("{number:>9}"));
+        (0..=12)
+            .filter(|number| *number != 2)
+            .for_each(|number| print!("{number:>9}"));
         println!();
         for (call, reachable) in REACHABLE {
             print!("{call:<8}");
             for number in (0..=12).filter(|number| *number != 2) {
                 let count = self.numbers.get(&(*call, number)).copied().unwrap_or(0);
-                let shown = if reachable.contains(&number) || count > 0 { count.to_string() } else { "-".to_string() };
+                let shown = if reachable.contains(&number) || count > 0 {
+                    count.to_string()
+                } else {
+                    "-".to_string()
+                };
                 print!("{shown:>9}");
             }
             println!();
@@ -97,7 +109,11 @@ impl Tally {
 
     /// The calls and numbers that a script can meet and none did.
     pub fn never_met(&self) -> Vec<String> {
-        let all = REACHABLE.iter().flat_map(|(call, numbers)| numbers.iter().map(move |number| (*call, *number)));
-        all.filter(|key| !self.numbers.contains_key(key)).map(|key| format!("{} {}", key.0, key.1)).collect()
+        let all = REACHABLE
+            .iter()
+            .flat_map(|(call, numbers)| numbers.iter().map(move |number| (*call, *number)));
+        all.filter(|key| !self.numbers.contains_key(key))
+            .map(|key| format!("{} {}", key.0, key.1))
+            .collect()
     }
 }

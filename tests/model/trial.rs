@@ -5,18 +5,21 @@ use crate::checker;
 use crate::daylog::{day_bytes, log_bytes, read_log, table_bytes, OPENING};
 use crate::failure::{Failure, Question};
 use crate::history::transactions;
+use crate::judging::given_order;
 use crate::lists;
 use crate::programs::{entry, Programs};
 use crate::random::Random;
 use crate::report::report_text;
+use crate::rules::{BAD_LOG, LENT};
 use crate::script::{lines, Player};
 use crate::small;
 use crate::tally::Tally;
 
-/// What a trial needs: the programs, and the counts.
+/// What a trial needs: the programs, the counts, and the lists that were accepted on small days of this script.
 pub struct Bench {
     pub programs: Programs,
     pub tally: Tally,
+    pub accepted: small::Accepted,
 }
 
 /// How closely a script is looked at.
@@ -35,6 +38,7 @@ impl Bench {
         let printed = self.programs.play(script).map_err(fail)?;
         self.tally.scripts += 1;
         self.tally.processes += 1;
+        self.accepted.clear();
         let mut printed = lines(&printed).into_iter();
         let mut player = Player::new();
         for line in lines(script) {
@@ -46,10 +50,15 @@ impl Bench {
             }
         }
         if let Some(more) = printed.next() {
-            return Err(fail(format!("play goes on with \"{}\"", String::from_utf8_lossy(more))));
+            return Err(fail(format!(
+                "play goes on with \"{}\"",
+                String::from_utf8_lossy(more)
+            )));
         }
         if nothing_broken() && !player.machine.books_tell_the_history() {
-            return Err(fail("the model's books do not tell its history".to_string()));
+            return Err(fail(
+                "the model's books do not tell its history".to_string(),
+            ));
         }
         self.tally.add(&player.tally);
         self.saved(&player, script, look)
@@ -68,8 +77,11 @@ impl Bench {
                 None => "nothing more".to_string(),
             };
             if said != *expected {
-                let line = player.line;
-                return Err(format!("line {line}: play prints \"{said}\", the model \"{expected}\""));
+                return Err(format!(
+                    "line {}: play {}",
+                    player.line,
+                    unlike(&said, expected)
+                ));
             }
             if i == 0 {
                 first = said;
@@ -79,7 +91,13 @@ impl Bench {
     }
 
     /// Puts an order that play printed to the checker, on the log as it stands.
-    fn given(&mut self, player: &Player, said: &str, script: &[u8], look: Look) -> Result<(), Failure> {
+    fn given(
+        &mut self,
+        player: &Player,
+        said: &str,
+        script: &[u8],
+        look: Look,
+    ) -> Result<(), Failure> {
         let Some(given) = &player.given else {
             return Ok(());
         };
@@ -107,7 +125,9 @@ impl Bench {
         for (name, expected) in &player.saved {
             let day = self.programs.take_saved(name).map_err(fail)?;
             if day != *expected {
-                return Err(fail(format!("the saved day {name} has other bytes than the model's")));
+                return Err(fail(format!(
+                    "the saved day {name} has other bytes than the model's"
+                )));
             }
             self.report(&day).map_err(fail)?;
             self.day(&day, &mut random, look.accepts)?;
@@ -121,9 +141,11 @@ impl Bench {
         self.tally.processes += 1;
         let expected = report_text(day);
         if printed != expected {
-            return Err(format!("report prints \"{printed}\", the model \"{expected}\""));
+            return Err(format!("report {}", unlike(&printed, &expected)));
         }
-        let refused = printed.strip_prefix("refused ").and_then(|rest| rest.trim().parse().ok());
+        let refused = printed
+            .strip_prefix("refused ")
+            .and_then(|rest| rest.trim().parse().ok());
         self.tally.met("report", refused.unwrap_or(0));
         Ok(())
     }
@@ -131,15 +153,40 @@ impl Bench {
     /// Puts lists of many kinds to the checker, on a day; so many of them to `accept`, too.
     pub fn day(&mut self, day: &[u8], random: &mut Random, accepts: usize) -> Result<(), Failure> {
         let (opening, log) = day.split_at(day.len().min(OPENING));
-        let history = read_log(log).unwrap_or_default();
-        let asked = lists::questions(random, &transactions(&history), history.len());
+        let history = read_log(log);
+        let laid_out = history.as_ref().map(|history| transactions(history));
+        let table = checker::table_from(opening);
+        let records = history.map_or(0, |history| history.len());
+        let asked = lists::questions(random, laid_out.as_deref().unwrap_or(&[]), records);
         for (begin, list) in &asked {
+            let expected = match (&table, &laid_out) {
+                (None, _) => LENT,
+                (_, None) => BAD_LOG,
+                (Some(table), Some(transactions)) => {
+                    checker::check_day(table, transactions, *begin, list)
+                }
+            };
             let list = checker::list_bytes(list);
-            let question =
-                Question { opening: opening.to_vec(), log: log.to_vec(), begin: *begin, list };
-            self.question(&question)?;
+            let answer = entry(opening, log, *begin, &list);
+            self.tally.list(answer);
+            if answer != expected {
+                let question = Question {
+                    opening: opening.to_vec(),
+                    log: log.to_vec(),
+                    begin: *begin,
+                    list,
+                };
+                return Err(differs(&question, answer, expected));
+            }
         }
-        for _ in 0..accepts {
+        if accepts == 0 {
+            return Ok(());
+        }
+        if let Some(one) = laid_out.as_ref().and_then(|all| all.last()) {
+            let order = given_order(laid_out.as_deref().unwrap_or(&[]), one).unwrap_or_default();
+            self.accept(day, one.begin as u32, &order)?;
+        }
+        for _ in 1..accepts {
             let (begin, list) = &asked[random.below(asked.len())];
             self.accept(day, *begin, list)?;
         }
@@ -148,13 +195,17 @@ impl Bench {
 
     /// Puts a question to the proved checker and to the model's; gives the answer.
     pub fn question(&mut self, question: &Question) -> Result<u8, Failure> {
-        let Question { opening, log, begin, list } = question;
+        let Question {
+            opening,
+            log,
+            begin,
+            list,
+        } = question;
         let answer = entry(opening, log, *begin, list);
         self.tally.list(answer);
         let expected = checker::check(opening, log, *begin, list);
         if answer != expected {
-            let difference = format!("the checker answers {answer}, the model {expected}");
-            return Err(Failure::question(question, difference));
+            return Err(differs(question, answer, expected));
         }
         Ok(answer)
     }
@@ -166,7 +217,12 @@ impl Bench {
         self.accept_words(day, &words).map_err(|difference| {
             let (opening, log) = day.split_at(day.len().min(OPENING));
             let list = checker::list_bytes(list);
-            let question = Question { opening: opening.to_vec(), log: log.to_vec(), begin, list };
+            let question = Question {
+                opening: opening.to_vec(),
+                log: log.to_vec(),
+                begin,
+                list,
+            };
             Failure::question(&question, difference)
         })
     }
@@ -177,12 +233,56 @@ impl Bench {
         self.tally.processes += 1;
         let expected = checker::accept_text(words, day);
         if printed != expected {
-            return Err(format!("accept prints \"{printed}\", the model \"{expected}\""));
+            return Err(format!("accept {}", unlike(&printed, &expected)));
         }
-        let refused = printed.strip_prefix("refused ").and_then(|rest| rest.trim().parse().ok());
+        let refused = printed
+            .strip_prefix("refused ")
+            .and_then(|rest| rest.trim().parse().ok());
         self.tally.met("accept", refused.unwrap_or(0));
         Ok(())
     }
+}
+
+/// Says how two texts differ: their first line, and in it the first word, that is not the same.
+fn unlike(printed: &str, expected: &str) -> String {
+    let lines = |text: &str| {
+        text.lines()
+            .map(str::to_string)
+            .chain(["".to_string()])
+            .collect::<Vec<_>>()
+    };
+    let (printed, expected) = (lines(printed), lines(expected));
+    let pair = printed
+        .iter()
+        .zip(&expected)
+        .find(|(one, other)| one != other);
+    let (one, other) = pair.map_or(("", ""), |(one, other)| (one.as_str(), other.as_str()));
+    let same = one
+        .split(' ')
+        .zip(other.split(' '))
+        .take_while(|(one, other)| one == other)
+        .count();
+    let from = |text: &str| {
+        text.split(' ')
+            .skip(same.saturating_sub(1))
+            .take(8)
+            .collect::<Vec<_>>()
+            .join(" ")
+    };
+    let what = one.split(' ').next().unwrap_or("");
+    format!(
+        "prints \"{what} .. {}\", the model \"{}\"",
+        from(one),
+        from(other)
+    )
+}
+
+/// The difference between what the checker and the model answer to a question.
+fn differs(question: &Question, answer: u8, expected: u8) -> Failure {
+    Failure::question(
+        question,
+        format!("the checker answers {answer}, the model {expected}"),
+    )
 }
 
 /// The day that a player has come to, as `save` would write it.

@@ -20,7 +20,8 @@ fn uses(from: usize, times: usize, per_day: usize) -> String {
 /// Records 3,998, none live: begin granted.
 fn records_3998() -> String {
     let handle = 32 * MOST_RECORDS / 2;
-    uses(0, 1999, usize::MAX) + &format!("begin # => begin 0 {handle}\nsave day\ncommit {handle} # => commit 0\nlog\n")
+    uses(0, 1999, usize::MAX)
+        + &format!("begin # => begin 0 {handle}\nsave day\ncommit {handle} # => commit 0\nlog\n")
 }
 
 /// Records 3,999, none live: begin 7, post granted.
@@ -36,7 +37,8 @@ fn records_3999_live() -> String {
     let mut text = uses(0, 1998, usize::MAX);
     let handle = 32 * 1999;
     text += &format!("begin\nread {handle} 0\nread {handle} 0\n");
-    text += &format!("read {handle} 0 # => read 7\nwrite {handle} 0 0000000000000001 # => write 7\n");
+    text +=
+        &format!("read {handle} 0 # => read 7\nwrite {handle} 0 0000000000000001 # => write 7\n");
     text += &format!("begin # => begin 7\npost 1 0000000000000001 # => post 7\ncommit {handle} # => commit 0\nlog\nsave day\n");
     text
 }
@@ -90,5 +92,8 @@ pub fn all() -> Vec<Trial> {
         ("turn-wraps", turn_wraps()),
         ("last-handle", last_handle()),
     ];
-    trials.into_iter().map(|(name, text)| (name, text.into_bytes())).collect()
+    trials
+        .into_iter()
+        .map(|(name, text)| (name, text.into_bytes()))
+        .collect()
 }

@@ -1,5 +1,6 @@
 //! A writer of scripts that knows how the model stands, so that most of its calls are granted, and some are wild.
 
+use crate::history::Kind;
 use crate::random::Random;
 use crate::rules::{Status, HANDLES, PLACES};
 use crate::script::{hex, Player};
@@ -59,7 +60,9 @@ impl Writer {
     /// The places that stand so.
     pub fn places(&self, status: Status) -> Vec<usize> {
         let books = &self.player.machine.books;
-        (0..PLACES).filter(|place| books.places[*place].status == status).collect()
+        (0..PLACES)
+            .filter(|place| books.places[*place].status == status)
+            .collect()
     }
 
     /// How many transactions are live.
@@ -94,7 +97,9 @@ impl Writer {
         match self.random.below(10) {
             0 => right.wrapping_add(32) % HANDLES,
             1 => right.wrapping_sub(32) % HANDLES,
-            2 => self.random.pick(&[HANDLES - 1, HANDLES, HANDLES + 1, u32::MAX, 0, 31, 32]),
+            2 => self
+                .random
+                .pick(&[HANDLES - 1, HANDLES, HANDLES + 1, u32::MAX, 0, 31, 32]),
             3 => right + HANDLES,
             4 => self.random.next() as u32,
             5 => self.random.next() as u32 % HANDLES,
@@ -112,7 +117,21 @@ impl Writer {
             return self.random.below(self.cells) as u32;
         }
         let any = self.random.next() as u32;
-        self.random.pick(&[0, 30, 31, 32, 33, 63, 64, 255, 256, 288, 65_536, u32::MAX, any])
+        self.random.pick(&[
+            0,
+            30,
+            31,
+            32,
+            33,
+            63,
+            64,
+            255,
+            256,
+            288,
+            65_536,
+            u32::MAX,
+            any,
+        ])
     }
 
     /// A value in hexadecimal digits: 8 bytes, or another number of bytes if it is wild.
@@ -142,15 +161,28 @@ impl Writer {
         self.text("begin");
     }
 
-    /// Read, mostly by a live one.
+    /// Read, mostly by a live one, and mostly of a cell that it has not written.
     pub fn read(&mut self) {
-        let line = format!("read {} {}", self.handle(Status::Live), self.cell());
+        let handle = self.handle(Status::Live);
+        let mut cell = self.cell();
+        let written = self.player.machine.books.places[(handle % 32) as usize].written;
+        if (cell as usize) < self.cells && written[cell as usize] && self.random.chance(700) {
+            cell = (0..self.cells)
+                .find(|other| !written[*other])
+                .unwrap_or(cell as usize) as u32;
+        }
+        let line = format!("read {handle} {cell}");
         self.text(&line);
     }
 
     /// Write, mostly by a live one.
     pub fn write(&mut self) {
-        let line = format!("write {} {} {}", self.handle(Status::Live), self.cell(), self.value());
+        let line = format!(
+            "write {} {} {}",
+            self.handle(Status::Live),
+            self.cell(),
+            self.value()
+        );
         self.text(&line);
     }
 
@@ -170,6 +202,32 @@ impl Writer {
     pub fn post(&mut self) {
         let line = format!("post {} {}", self.cell(), self.value());
         self.text(&line);
+    }
+
+    /// A read or commit of a live one that would meet Conflict, if a few tries come upon one; gives whether they did.
+    pub fn conflict(&mut self) -> bool {
+        let live = self.places(Status::Live);
+        for _ in 0..8 * live.len().min(4) {
+            let place = self.random.pick(&live);
+            let cell = self.random.below(self.cells);
+            let machine = &self.player.machine;
+            let handle = machine.books.handle(place);
+            let line = if self.random.chance(300) {
+                machine
+                    .would_conflict(Kind::Commit, place, 0, [0; 8])
+                    .then(|| format!("commit {handle}"))
+            } else {
+                let judged = !machine.books.places[place].written[cell];
+                let conflict = judged
+                    && machine.would_conflict(Kind::JudgedRead, place, cell, machine.table[cell]);
+                conflict.then(|| format!("read {handle} {cell}"))
+            };
+            if let Some(line) = line {
+                self.text(&line);
+                return true;
+            }
+        }
+        false
     }
 
     /// Order, of a live or committed one.
@@ -199,7 +257,11 @@ impl Writer {
     /// Everyone who is live commits or gives up.
     pub fn end_all(&mut self) {
         for place in self.places(Status::Live) {
-            let call = if self.random.chance(600) { "commit" } else { "giveup" };
+            let call = if self.random.chance(600) {
+                "commit"
+            } else {
+                "giveup"
+            };
             let line = format!("{call} {}", self.handle_of(place));
             self.text(&line);
         }
