@@ -32,7 +32,7 @@ extern "C" {
  *
  * Every length is in bytes and may be anything. No pointer may be null, even where its length is 0, and each points to as many readable
  * bytes as its length says, which nobody writes during the call. Nothing is written, kept or allocated: any number of threads may call at
- * once. The call needs some 10 KB of stack. */
+ * once. The call needs less than 5 KB of stack. */
 uint8_t nogturshan_check(const uint8_t *opening, size_t opening_length, const uint8_t *log, size_t log_length, uint32_t begin,
                          const uint8_t *list, size_t list_length);
 

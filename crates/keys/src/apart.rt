@@ -25,7 +25,7 @@ fn is_apart(passes: &[bool; 64], keys: &[u16; 64], i: usize) -> bool
     apart
 }
 
-// Of the places that pass, no two have the same key.
+// Of the places that pass, no two have the same key, if nobody passes behind the last.
 pub fn are_apart(passes: [bool; 64], keys: [u16; 64], places: usize) -> bool
     requires { ⌜ places ≤ width ⌝ }
     ensures { λ r. ⌜ r ≡ allBelow (apart passes keys) places ⌝ }
