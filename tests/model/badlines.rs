@@ -93,7 +93,9 @@ const NUMBERS: &[&str] = &[
 ];
 
 /// Lengths on both sides of the longest line.
-const LENGTHS: &[usize] = &[253, 254, 255, 255, 256, 256, 257, 300, 511, 512, 1000];
+const LENGTHS: &[usize] = &[
+    253, 254, 255, 255, 256, 256, 257, 300, 511, 512, 1000, 4096, 70_000,
+];
 
 /// A line that is badly written, or looks so.
 pub fn bad_line(writer: &mut Writer) {

@@ -72,12 +72,15 @@ impl<'a> Order<'a> {
     /// What a list for this transaction has to keep.
     pub fn of(day: &'a [Transaction], one: &'a Transaction) -> Order<'a> {
         let company = judging::company(day, one);
-        let before = judging::pairs(&company);
+        let before = judging::pairs(&company, judging::Asker::Checker);
         Order { company, before }
     }
 
     /// Whether a list is accepted.
     pub fn accepts(&self, opening: &Table, list: &[u16]) -> bool {
+        if broken(Break::EveryList) || broken(Break::NoList) {
+            return broken(Break::EveryList);
+        }
         if !self.is_the_company(list) || !self.keeps_every_pair(list) {
             return false;
         }

@@ -1,5 +1,8 @@
 //! A difference between model and machine: its input, and what differs.
 
+use crate::checker::list_bytes;
+use crate::daylog::OPENING;
+
 /// What a difference was found with.
 #[derive(Clone)]
 pub enum Input {
@@ -18,6 +21,20 @@ pub struct Question {
     pub log: Vec<u8>,
     pub begin: u32,
     pub list: Vec<u8>,
+}
+
+impl Question {
+    /// A question on a saved day: the first 256 bytes are the opening table, if there are so many.
+    pub fn on_day(day: &[u8], begin: u32, list: &[u16]) -> Question {
+        let (opening, log) = day.split_at(day.len().min(OPENING));
+        let list = list_bytes(list);
+        Question {
+            opening: opening.to_vec(),
+            log: log.to_vec(),
+            begin,
+            list,
+        }
+    }
 }
 
 /// A difference.

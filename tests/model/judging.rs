@@ -24,11 +24,9 @@ pub fn moment(one: &Transaction) -> usize {
 /// The day may have the transaction as it was before the call that is weighed.
 pub fn company<'a>(day: &'a [Transaction], one: &'a Transaction) -> Vec<&'a Transaction> {
     let moment = moment(one);
-    let live_readers = broken(Break::LiveReaders);
     let belongs = |other: &&Transaction| {
         let committed_before = other.commit.is_some_and(|commit| commit < moment);
-        let live_reader = other.stands == Stands::Live && !other.reads.is_empty();
-        other.begin != one.begin && (committed_before || (live_readers && live_reader))
+        other.begin != one.begin && (committed_before || counts_by_mistake(other))
     };
     let mut company: Vec<&Transaction> = day.iter().filter(belongs).collect();
     company.push(one);
@@ -36,9 +34,19 @@ pub fn company<'a>(day: &'a [Transaction], one: &'a Transaction) -> Vec<&'a Tran
     company
 }
 
+/// Whether a reader that is not committed counts, with a rule broken.
+fn counts_by_mistake(other: &Transaction) -> bool {
+    let stands = match other.stands {
+        Stands::Live => broken(Break::LiveReaders),
+        Stands::GaveUp => broken(Break::GivenUpReaders),
+        _ => false,
+    };
+    stands && !other.reads.is_empty()
+}
+
 /// Real time: K is committed and its commit record is below M's begin record.
 fn real_time(k: &Transaction, m: &Transaction) -> bool {
-    !broken(Break::RealTime) && k.commit.is_some_and(|commit| commit < m.begin)
+    k.commit.is_some_and(|commit| commit < m.begin)
 }
 
 /// Write then write: both committed, a cell in common, K's commit first.
@@ -46,8 +54,7 @@ fn write_then_write(k: &Transaction, m: &Transaction) -> bool {
     let (Some(first), Some(second)) = (k.commit, m.commit) else {
         return false;
     };
-    let in_common = (0..CELLS).any(|cell| k.written[cell] && m.written[cell]);
-    !broken(Break::WriteWrite) && first < second && in_common
+    first < second && (0..CELLS).any(|cell| k.written[cell] && m.written[cell])
 }
 
 /// Write then read: K committed a cell before a judged read of it by M.
@@ -55,11 +62,9 @@ fn write_then_read(k: &Transaction, m: &Transaction) -> bool {
     let Some(commit) = k.commit else {
         return false;
     };
-    let later = |record: usize| commit < record;
-    !broken(Break::WriteRead)
-        && m.reads
-            .iter()
-            .any(|read| later(read.record) && k.written[read.cell])
+    m.reads
+        .iter()
+        .any(|read| commit < read.record && k.written[read.cell])
 }
 
 /// Read then write: K made a judged read of a cell before M committed that cell.
@@ -67,24 +72,40 @@ fn read_then_write(k: &Transaction, m: &Transaction) -> bool {
     let Some(commit) = m.commit else {
         return false;
     };
-    let earlier = |record: usize| record < commit;
-    !broken(Break::ReadWrite)
-        && k.reads
-            .iter()
-            .any(|read| earlier(read.record) && m.written[read.cell])
+    k.reads
+        .iter()
+        .any(|read| read.record < commit && m.written[read.cell])
 }
 
-/// Whether K stands before M, by one of the four kinds of pair. K and M differ.
-pub fn stands_before(k: &Transaction, m: &Transaction) -> bool {
-    k.begin != m.begin
-        && (real_time(k, m)
-            || write_then_write(k, m)
-            || write_then_read(k, m)
-            || read_then_write(k, m))
+/// The four kinds of pair, each with the break that leaves it out of the judging and the one that leaves it out of the checker.
+type Kind = (fn(&Transaction, &Transaction) -> bool, Break, Break);
+const KINDS: [Kind; 4] = [
+    (real_time, Break::RealTime, Break::ListRealTime),
+    (write_then_write, Break::WriteWrite, Break::ListWriteWrite),
+    (write_then_read, Break::WriteRead, Break::ListWriteRead),
+    (read_then_write, Break::ReadWrite, Break::ListReadWrite),
+];
+
+/// Who asks for pairs: the judging, or the checker.
+#[derive(Clone, Copy, PartialEq)]
+pub enum Asker {
+    Judging,
+    Checker,
 }
 
-/// The pairs of a company: in row K and column M, whether K stands before M.
-pub fn pairs(company: &[&Transaction]) -> Vec<Vec<bool>> {
+/// The pairs of a company: in row K and column M, whether K stands before M by one of the four kinds. K and M differ.
+pub fn pairs(company: &[&Transaction], asker: Asker) -> Vec<Vec<bool>> {
+    let left_out = |kind: &Kind| {
+        broken(if asker == Asker::Judging {
+            kind.1
+        } else {
+            kind.2
+        })
+    };
+    let kinds: Vec<Kind> = KINDS.into_iter().filter(|kind| !left_out(kind)).collect();
+    let stands_before = |k: &Transaction, m: &Transaction| {
+        k.begin != m.begin && kinds.iter().any(|kind| kind.0(k, m))
+    };
     company
         .iter()
         .map(|k| company.iter().map(|m| stands_before(k, m)).collect())
@@ -122,21 +143,26 @@ pub fn has_cycle(before: &[Vec<bool>]) -> bool {
 
 /// Whether a judged call meets Conflict: the transaction has the call counted as granted.
 pub fn conflict(day: &[Transaction], one: &Transaction) -> bool {
-    if broken(Break::FirstRead) && one.commit.is_none() && one.reads.len() > 1 {
+    let later_read = one.commit.is_none() && one.reads.len() > 1;
+    if broken(Break::GrantAll) || (broken(Break::FirstRead) && later_read) {
         return false;
     }
     let company = company(day, one);
     if broken(Break::ReadChanged) {
         return company.iter().any(|other| read_then_write(one, other));
     }
-    has_cycle(&pairs(&company))
+    has_cycle(&pairs(&company, Asker::Judging)) || broken(Break::ConflictAll)
 }
 
 /// The given order, as begin records: again and again, among those with nobody left before them, the one with the lowest begin record.
 /// None if the company has a cycle.
 pub fn given_order(day: &[Transaction], one: &Transaction) -> Option<Vec<u16>> {
-    let company = company(day, one);
-    let before = pairs(&company);
+    let mut company = company(day, one);
+    if broken(Break::CommitOrder) {
+        company.sort_by_key(|member| member.commit.unwrap_or(usize::MAX));
+        return Some(company.iter().map(|member| member.begin as u16).collect());
+    }
+    let before = pairs(&company, Asker::Judging);
     let mut left: Vec<usize> = (0..company.len()).collect();
     let mut order = Vec::new();
     while !left.is_empty() {

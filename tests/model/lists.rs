@@ -1,7 +1,7 @@
 //! Lists of begin records that are put to the checker: orders that are right, and orders with one thing wrong.
 
 use crate::history::Transaction;
-use crate::judging::{company, given_order, pairs};
+use crate::judging::{company, given_order, pairs, Asker};
 use crate::random::Random;
 
 /// A begin record and a list.
@@ -95,7 +95,7 @@ fn lists(
 /// An order that keeps every pair, taken at random; what there is of it if there is a cycle.
 fn any_order(random: &mut Random, day: &[Transaction], one: &Transaction) -> Vec<u16> {
     let company = company(day, one);
-    let before = pairs(&company);
+    let before = pairs(&company, Asker::Judging);
     let mut left: Vec<usize> = (0..company.len()).collect();
     let mut order = Vec::new();
     loop {
@@ -113,50 +113,42 @@ fn any_order(random: &mut Random, day: &[Transaction], one: &Transaction) -> Vec
     }
 }
 
-/// An order with one left out, one repeated, one named twice for another, and one too many.
+/// An order with one left out, one repeated, one named twice and another not, one too many, one instead of another, far too many.
 fn spoilt(
     random: &mut Random,
     day: &[Transaction],
     order: &[u16],
     records: usize,
 ) -> Vec<Vec<u16>> {
-    let mut spoilt = Vec::new();
-    if !order.is_empty() {
-        let mut left_out = order.to_vec();
-        left_out.remove(random.below(order.len()));
-        let mut repeated = order.to_vec();
-        repeated.insert(random.below(order.len() + 1), random.pick(order));
-        let mut twice = order.to_vec();
-        let at = random.below(order.len());
-        twice[at] = random.pick(order);
-        spoilt.extend([left_out, repeated, twice]);
-    }
-    let strange = [
-        0,
-        records as u16 + 1,
-        65_535,
-        random.next() as u16,
-        random.between(1, records.max(1)) as u16,
-    ];
-    let others: Vec<u16> = day
-        .iter()
-        .map(|one| one.begin as u16)
-        .filter(|begin| !order.contains(begin))
-        .collect();
-    let extra = if others.is_empty() || random.chance(300) {
-        random.pick(&strange)
-    } else {
-        random.pick(&others)
-    };
+    let extra = stranger(random, day, order, records);
     let mut too_many = order.to_vec();
     too_many.insert(random.below(order.len() + 1), extra);
-    let mut instead = order.to_vec();
+    let mut long = order.to_vec();
+    long.resize(random.between(32, 40), extra);
+    let mut spoilt = vec![too_many, long];
     if !order.is_empty() {
         let at = random.below(order.len());
+        let mut left_out = order.to_vec();
+        left_out.remove(at);
+        let mut repeated = order.to_vec();
+        repeated.insert(random.below(order.len() + 1), order[at]);
+        let mut twice = order.to_vec();
+        twice[at] = random.pick(order);
+        let mut instead = order.to_vec();
         instead[at] = extra;
+        spoilt.extend([left_out, repeated, twice, instead]);
     }
-    let mut long = order.to_vec();
-    long.resize(random.between(32, 40), random.pick(&strange));
-    spoilt.extend([too_many, instead, long]);
     spoilt
+}
+
+/// A number that an order does not have: another transaction, or no begin record at all.
+fn stranger(random: &mut Random, day: &[Transaction], order: &[u16], records: usize) -> u16 {
+    let begins = day.iter().map(|one| one.begin as u16);
+    let others: Vec<u16> = begins.filter(|begin| !order.contains(begin)).collect();
+    if !others.is_empty() && random.chance(700) {
+        return random.pick(&others);
+    }
+    let any = random.next() as u16;
+    let record = random.between(1, records.max(1)) as u16;
+    random.pick(&[0, records as u16 + 1, 65_535, any, record])
 }

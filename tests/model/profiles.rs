@@ -6,8 +6,9 @@ use crate::failure::{Failure, Question};
 use crate::history::transactions;
 use crate::random::Random;
 use crate::script::{lines, Player};
+use crate::smalldays::choices;
 use crate::trial::{day_of, Bench, Look};
-use crate::{checker, damage, daylog, logs, scripts, small, smalldays};
+use crate::{checker, damage, daylog, logs, schedules, scripts, small, smalldays, tinylogs};
 
 /// How a script's days are looked at, unless they are small ones.
 pub const PLAIN_LOOK: Look = Look {
@@ -19,6 +20,20 @@ pub const SMALL_LOOK: Look = Look {
     accepts: 4,
     small: 6,
 };
+
+/// After so many seeds a profile would begin again: it enumerates choices of plans, with unique values and with zeros.
+pub fn most(name: &str) -> u64 {
+    match name {
+        "two-by-two" => 2 * choices(&[2, 2]),
+        "two-by-three" => 2 * choices(&[3, 3]),
+        "three-by-one" => 2 * choices(&[1, 1, 1]),
+        "two-one-one" => 6 * choices(&[2, 1, 1]),
+        "three-by-two" => 2 * choices(&[2, 2, 2]),
+        "six-calls" | "seven-calls" => schedules::starts(),
+        "four-records" | "five-records" => tinylogs::choices(),
+        _ => u64::MAX,
+    }
+}
 
 /// How one seed of a profile is run.
 type Run = fn(&mut Bench, &'static str, u64) -> Result<(), Failure>;
@@ -41,7 +56,7 @@ const fn profile(name: &'static str, count: u64, short: u64, run: Run) -> Profil
     }
 }
 
-/// Every profile. Of two-by-two and three-by-one a default run has every choice of plans.
+/// Every profile. Of those that enumerate, a default run has all of two-by-two, six-calls and four-records.
 pub const ALL: &[Profile] = &[
     profile("short", 600, 30, run_script),
     profile("few-cells", 400, 5, run_script),
@@ -63,9 +78,13 @@ pub const ALL: &[Profile] = &[
     profile("turn-wrap", 2, 1, run_script),
     profile("two-by-two", 1058, 0, run_two_by_two),
     profile("two-by-three", 150, 0, run_two_by_three),
-    profile("three-by-one", 343, 0, run_three_by_one),
+    profile("three-by-one", 120, 0, run_three_by_one),
     profile("two-one-one", 250, 0, run_two_one_one),
     profile("three-by-two", 100, 0, run_three_by_two),
+    profile("six-calls", 56, 0, run_six_calls),
+    profile("seven-calls", 3, 0, run_seven_calls),
+    profile("four-records", 252, 0, run_four_records),
+    profile("five-records", 30, 0, run_five_records),
     profile("small", 400, 0, run_small),
     profile("six", 40, 0, run_six),
 ];
@@ -115,6 +134,26 @@ fn run_three_by_two(bench: &mut Bench, name: &'static str, seed: u64) -> Result<
         &smalldays::every_interleaving(name, seed, &[2, 2, 2], 100),
         SMALL_LOOK,
     )
+}
+
+/// Every schedule of six calls, each granted or a Conflict, by up to three transactions over two cells.
+fn run_six_calls(bench: &mut Bench, _: &'static str, seed: u64) -> Result<(), Failure> {
+    bench.script(&schedules::script(seed, 6), SMALL_LOOK)
+}
+
+/// Every schedule of seven calls, each granted or a Conflict, by up to three transactions over two cells.
+fn run_seven_calls(bench: &mut Bench, _: &'static str, seed: u64) -> Result<(), Failure> {
+    bench.script(&schedules::script(seed, 7), SMALL_LOOK)
+}
+
+/// Every log of up to four records from a small alphabet, whatever a machine would write.
+fn run_four_records(bench: &mut Bench, _: &'static str, seed: u64) -> Result<(), Failure> {
+    tinylogs::run(bench, seed, 2)
+}
+
+/// Every log of up to five records from a small alphabet, whatever a machine would write.
+fn run_five_records(bench: &mut Bench, _: &'static str, seed: u64) -> Result<(), Failure> {
+    tinylogs::run(bench, seed, 3)
 }
 
 /// Random days with up to four transactions.
@@ -168,16 +207,8 @@ fn run_damage(bench: &mut Bench, name: &'static str, seed: u64) -> Result<(), Fa
 
 /// Puts a day to the report; a difference is kept as a question.
 fn reported(bench: &mut Bench, day: &[u8]) -> Result<(), Failure> {
-    bench.report(day).map_err(|difference| {
-        let (opening, log) = day.split_at(day.len().min(OPENING));
-        let question = Question {
-            opening: opening.to_vec(),
-            log: log.to_vec(),
-            begin: 1,
-            list: vec![1, 0],
-        };
-        Failure::question(&question, difference)
-    })
+    let result = bench.report(day);
+    result.map_err(|difference| Failure::question(&Question::on_day(day, 1, &[1]), difference))
 }
 
 /// Logs that no machine would write: every list where there are few transactions, lists of many kinds on the others.
@@ -296,7 +327,7 @@ fn run_words(bench: &mut Bench, name: &'static str, seed: u64) -> Result<(), Fai
     ];
     for i in 0..60 {
         let mut words: Vec<Vec<u8>> = Vec::new();
-        for _ in 0..random.pick(&[0, 1, 2, 2, 3, 3, 4, 33, 34, 40]) {
+        for _ in 0..random.pick(&[0, 1, 2, 2, 3, 3, 4, 5, 33, 34, 40, 3000]) {
             words.push(any_word(&mut random));
         }
         let day = &days[if i % 3 == 0 { random.below(4) } else { 0 }];

@@ -2,9 +2,13 @@
 
 use std::ffi::OsStr;
 use std::fs::{self, File};
+use std::io::Write;
 use std::os::unix::ffi::OsStrExt;
 use std::path::{Path, PathBuf};
-use std::process::{Command, Stdio};
+use std::process::{Child, Command, Output, Stdio};
+
+/// The file that a program reads from.
+const STDIN: &str = "stdin";
 
 /// The programs under target/bin, and the folder that they run in.
 pub struct Programs {
@@ -24,17 +28,25 @@ impl Programs {
         }
     }
 
-    /// What a program prints for these words and this input.
+    /// What a program prints for these words and this input, which comes from a file, or from a pipe in pieces.
     fn run(&self, program: &str, words: &[Vec<u8>], input: &[u8]) -> Result<Vec<u8>, String> {
-        let stdin = self.scratch.join("stdin");
-        fs::write(&stdin, input).map_err(|error| format!("{}: {error}", stdin.display()))?;
-        let stdin = File::open(&stdin).map_err(|error| format!("{}: {error}", stdin.display()))?;
-        let output = Command::new(self.bin.join(program))
-            .args(words.iter().map(|word| OsStr::from_bytes(word)))
+        let said = |error: std::io::Error| format!("{program}: {error}");
+        let mut command = Command::new(self.bin.join(program));
+        command.args(words.iter().map(|word| OsStr::from_bytes(word)));
+        command
             .current_dir(&self.scratch)
-            .stdin(Stdio::from(stdin))
-            .output()
-            .map_err(|error| format!("{program}: {error}"))?;
+            .stdout(Stdio::piped())
+            .stderr(Stdio::piped());
+        let in_pieces = input.len() % 5 == 1;
+        let output = if in_pieces {
+            let child = command.stdin(Stdio::piped()).spawn().map_err(said)?;
+            fed_in_pieces(child, input).map_err(said)?
+        } else {
+            let stdin = self.scratch.join(STDIN);
+            fs::write(&stdin, input).map_err(said)?;
+            let stdin = File::open(&stdin).map_err(said)?;
+            command.stdin(Stdio::from(stdin)).output().map_err(said)?
+        };
         if !output.status.success() || !output.stderr.is_empty() {
             let said = String::from_utf8_lossy(&output.stderr).into_owned();
             return Err(format!(
@@ -69,6 +81,41 @@ impl Programs {
         fs::remove_file(&path).map_err(|error| format!("the saved day {name}: {error}"))?;
         Ok(bytes)
     }
+
+    /// A file in the scratch folder that is not the programs' input.
+    pub fn other_file(&self) -> Option<String> {
+        let entries = fs::read_dir(&self.scratch).ok()?;
+        let mut names = entries.filter_map(|entry| entry.ok()?.file_name().into_string().ok());
+        names.find(|name| name != STDIN)
+    }
+
+    /// Takes away all files of the scratch folder.
+    pub fn clear(&self) {
+        while let Some(name) = self.other_file() {
+            if fs::remove_file(self.scratch.join(name)).is_err() {
+                break;
+            }
+        }
+    }
+}
+
+/// Hands the input to a program piece by piece, and waits for it. A program that has read enough may end before it has all.
+fn fed_in_pieces(mut child: Child, input: &[u8]) -> std::io::Result<Output> {
+    let piece = (input.len() / 200).max(1 + input.len() % 23);
+    let mut pipe = child.stdin.take();
+    std::thread::scope(|scope| {
+        scope.spawn(move || {
+            for part in input.chunks(piece) {
+                if pipe
+                    .as_mut()
+                    .is_none_or(|pipe| pipe.write_all(part).is_err())
+                {
+                    break;
+                }
+            }
+        });
+        child.wait_with_output()
+    })
 }
 
 impl Drop for Programs {

@@ -244,24 +244,17 @@ impl Machine {
             Ok(found) => found,
             Err(number) => return (number, None),
         };
-        let late =
-            broken(Break::LogFullRead) && self.books.records + self.books.live() == MOST_RECORDS;
-        let first = broken(Break::ConflictFirst)
-            && !self.books.places[place].written[cell]
-            && self.would_conflict(Kind::JudgedRead, place, cell, self.table[cell]);
-        if !self.books.has_room(0) && !late && !first {
+        if !self.books.has_room(0) && !self.goes_on_by_mistake(place, cell) {
             return (LOG_FULL, None);
         }
         if self.books.places[place].written[cell] {
-            let shown = if broken(Break::OwnRead) {
-                self.table[cell]
-            } else {
-                self.drafts[place][cell]
-            };
-            self.record(Kind::OwnRead, place, cell, shown);
-            return (GRANTED, Some(shown));
+            return self.own_read(place, cell);
         }
-        let shown = self.table[cell];
+        let shown = if broken(Break::ZeroRead) {
+            [0; 8]
+        } else {
+            self.table[cell]
+        };
         if self.is_conflict(Kind::JudgedRead, place, cell, shown) {
             self.turn_back(Kind::ConflictAtRead, place, cell);
             return (CONFLICT, None);
@@ -274,6 +267,30 @@ impl Machine {
         }
         books.last_read[cell] = number;
         (GRANTED, Some(shown))
+    }
+
+    /// A read of a cell that the transaction has written: it shows its draft.
+    fn own_read(&mut self, place: usize, cell: usize) -> (u8, Option<Value>) {
+        let draft = self.drafts[place][cell];
+        let shown = if broken(Break::OwnRead) {
+            self.table[cell]
+        } else {
+            draft
+        };
+        if !broken(Break::NoRecord) {
+            self.record(Kind::OwnRead, place, cell, shown);
+        }
+        (GRANTED, Some(shown))
+    }
+
+    /// Whether a read goes on though the log is full, with a rule broken.
+    fn goes_on_by_mistake(&self, place: usize, cell: usize) -> bool {
+        let one_late = self.books.records + self.books.live() == MOST_RECORDS;
+        let judged = !self.books.places[place].written[cell];
+        (broken(Break::LogFullRead) && one_late)
+            || (broken(Break::ConflictFirst)
+                && judged
+                && self.would_conflict(Kind::JudgedRead, place, cell, self.table[cell]))
     }
 
     /// Commit: judged as if granted; then the written cells' drafts go into the table and the place becomes committed.

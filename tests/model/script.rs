@@ -63,6 +63,8 @@ pub struct Player {
     pub machine: Machine,
     /// How many lines there were.
     pub line: usize,
+    /// Records plus live ones, and live ones, before the last line.
+    before: (usize, usize),
     /// What the last line printed, line by line.
     pub printed: Vec<String>,
     /// The order that the last line was given.
@@ -78,6 +80,7 @@ impl Player {
         Player {
             machine: Machine::new(),
             line: 0,
+            before: (0, 0),
             printed: Vec::new(),
             given: None,
             saved: BTreeMap::new(),
@@ -88,6 +91,8 @@ impl Player {
     /// Plays one line.
     pub fn play(&mut self, line: &[u8]) {
         self.line += 1;
+        let live = self.machine.books.live();
+        self.before = (self.machine.books.records + live, live);
         self.printed.clear();
         self.given = None;
         self.machine.weighed = None;
@@ -147,6 +152,8 @@ impl Player {
     /// Prints a call and its number.
     fn says(&mut self, call: &'static str, answer: u8) {
         self.tally.met(call, answer);
+        self.tally
+            .met_near_bound(call, self.before.0, self.before.1, answer);
         self.tally.judged(self.machine.weighed.is_some(), answer);
         self.printed.push(format!("{call} {answer}"));
     }

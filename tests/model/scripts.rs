@@ -235,7 +235,9 @@ fn log_full(writer: &mut Writer) {
         writer.end_all();
     }
     while writer.records() < MOST_RECORDS && writer.live() > 0 {
-        all_that_meet_log_full(writer);
+        for _ in 0..writer.random.between(1, 3) {
+            all_that_meet_log_full(writer);
+        }
         if writer.random.chance(500) {
             writer.commit();
         } else {
@@ -364,6 +366,9 @@ fn around_the_wrap(writer: &mut Writer, place: usize, old: u32) {
             writer.text("close");
             continue;
         }
+        if writer.random.chance(200) {
+            bad_line(writer);
+        }
         writer.begin();
         let right = writer.handle_of(place);
         for handle in [
@@ -402,7 +407,10 @@ pub fn script(name: &str, seed: u64) -> Vec<u8> {
             plain(&mut writer, found.expect("a plain profile of this name"));
         }
     }
-    if writer.random.chance(200) {
+    if writer.random.chance(300) {
+        bad_line(&mut writer);
+    }
+    if writer.random.chance(300) {
         writer.script.pop();
     }
     writer.script

@@ -49,7 +49,7 @@ pub fn accepted_lists(
 }
 
 /// Puts every list to the proved checker and to the model's, for one transaction; gives the accepted ones.
-fn try_every_list(
+pub fn try_every_list(
     bench: &mut Bench,
     opening: &Table,
     history: &[Record],

@@ -2,7 +2,10 @@
 
 use std::collections::BTreeMap;
 
-use crate::rules::CONFLICT;
+use crate::rules::{CONFLICT, MOST_RECORDS};
+
+/// A call near the bound: its name, records plus live ones and the live ones before it, and the number that it met.
+pub type Bound = (&'static str, usize, usize, u8);
 
 /// Counts of what was run.
 #[derive(Clone, Default)]
@@ -17,6 +20,8 @@ pub struct Tally {
     pub processes: u64,
     /// By call and number, how often it was met.
     pub numbers: BTreeMap<(&'static str, u8), u64>,
+    /// The same near the bound of 4,000, by records plus live ones before the call, and live ones: 0, 1, or 2 for several.
+    pub bounds: BTreeMap<Bound, u64>,
 }
 
 /// The numbers that a script can meet, by call, and those of the checker and its programs.
@@ -48,6 +53,16 @@ impl Tally {
         *self.numbers.entry((call, number)).or_default() += 1;
     }
 
+    /// A call near the bound met a number.
+    pub fn met_near_bound(&mut self, call: &'static str, sum: usize, live: usize, number: u8) {
+        if sum + 2 >= MOST_RECORDS {
+            *self
+                .bounds
+                .entry((call, sum, live.min(2), number))
+                .or_default() += 1;
+        }
+    }
+
     /// A call was judged, if it was.
     pub fn judged(&mut self, judged: bool, number: u8) {
         self.judged += u64::from(judged);
@@ -73,6 +88,9 @@ impl Tally {
         self.processes += other.processes;
         for (key, count) in &other.numbers {
             *self.numbers.entry(*key).or_default() += count;
+        }
+        for (key, count) in &other.bounds {
+            *self.bounds.entry(*key).or_default() += count;
         }
     }
 
@@ -109,11 +127,45 @@ impl Tally {
 
     /// The calls and numbers that a script can meet and none did.
     pub fn never_met(&self) -> Vec<String> {
-        let all = REACHABLE
+        let numbers = REACHABLE
             .iter()
             .flat_map(|(call, numbers)| numbers.iter().map(move |number| (*call, *number)));
-        all.filter(|key| !self.numbers.contains_key(key))
-            .map(|key| format!("{} {}", key.0, key.1))
-            .collect()
+        let never = numbers.filter(|key| !self.numbers.contains_key(key));
+        let mut said: Vec<String> = never
+            .map(|(call, number)| format!("{call} {number}"))
+            .collect();
+        for bound in reachable_bounds() {
+            if !self.bounds.contains_key(&bound) {
+                let (call, sum, live, number) = bound;
+                said.push(format!(
+                    "{call} {number} with records and live ones {sum}, live {live}"
+                ));
+            }
+        }
+        said
     }
+}
+
+/// What a script can meet on both sides of the bound of 4,000, with none, one and several live.
+fn reachable_bounds() -> Vec<Bound> {
+    let full = MOST_RECORDS;
+    let mut bounds = Vec::new();
+    for live in 0..=2 {
+        bounds.extend([
+            ("begin", full - 2, live, 0),
+            ("begin", full - 1, live, 7),
+            ("begin", full, live, 7),
+        ]);
+        bounds.extend([("post", full - 1, live, 0), ("post", full, live, 7)]);
+        if live > 0 {
+            bounds.extend([("write", full - 1, live, 0), ("write", full, live, 7)]);
+            bounds.extend([("read", full - 1, live, 0), ("read", full, live, 7)]);
+            bounds.extend([
+                ("commit", full, live, 0),
+                ("commit", full, live, 9),
+                ("giveup", full, live, 0),
+            ]);
+        }
+    }
+    bounds
 }

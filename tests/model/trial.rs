@@ -4,13 +4,13 @@ use crate::breaks::nothing_broken;
 use crate::checker;
 use crate::daylog::{day_bytes, log_bytes, read_log, table_bytes, OPENING};
 use crate::failure::{Failure, Question};
-use crate::history::transactions;
+use crate::history::{transactions, Transaction};
 use crate::judging::given_order;
 use crate::lists;
 use crate::programs::{entry, Programs};
 use crate::random::Random;
 use crate::report::report_text;
-use crate::rules::{BAD_LOG, LENT};
+use crate::rules::{BAD_LOG, GRANTED, LENT};
 use crate::script::{lines, Player};
 use crate::small;
 use crate::tally::Tally;
@@ -34,11 +34,20 @@ pub struct Look {
 impl Bench {
     /// Plays a script by machine and model, and looks at every line, every order given, every judged call of a small day, every saved day.
     pub fn script(&mut self, script: &[u8], look: Look) -> Result<(), Failure> {
+        self.accepted.clear();
+        let result = self.played(script, look);
+        if result.is_err() {
+            self.programs.clear();
+        }
+        result
+    }
+
+    /// The same, with files left behind where something differs.
+    fn played(&mut self, script: &[u8], look: Look) -> Result<(), Failure> {
         let fail = |difference| Failure::script(script, difference);
         let printed = self.programs.play(script).map_err(fail)?;
         self.tally.scripts += 1;
         self.tally.processes += 1;
-        self.accepted.clear();
         let mut printed = lines(&printed).into_iter();
         let mut player = Player::new();
         for line in lines(script) {
@@ -50,10 +59,8 @@ impl Bench {
             }
         }
         if let Some(more) = printed.next() {
-            return Err(fail(format!(
-                "play goes on with \"{}\"",
-                String::from_utf8_lossy(more)
-            )));
+            let more = String::from_utf8_lossy(more).into_owned();
+            return Err(fail(format!("play goes on with \"{more}\"")));
         }
         if nothing_broken() && !player.machine.books_tell_the_history() {
             return Err(fail(
@@ -118,7 +125,7 @@ impl Bench {
         small::least(self, machine, given, look.small, script)
     }
 
-    /// Holds every saved day against the model: its bytes, the report, the checker and `accept`.
+    /// Holds every saved day against the model: its bytes, the report, the checker and `accept`; and no other file was written.
     fn saved(&mut self, player: &Player, script: &[u8], look: Look) -> Result<(), Failure> {
         let fail = |difference| Failure::script(script, difference);
         let mut random = Random::new("saved", script.len() as u64);
@@ -131,8 +138,16 @@ impl Bench {
             }
             self.report(&day).map_err(fail)?;
             self.day(&day, &mut random, look.accepts)?;
+            if nothing_broken() && !everyone_has_an_order(&day) {
+                return Err(fail(format!(
+                    "the saved day {name} has a transaction with no order"
+                )));
+            }
         }
-        Ok(())
+        match self.programs.other_file() {
+            Some(name) => Err(fail(format!("play wrote a file {name}"))),
+            None => Ok(()),
+        }
     }
 
     /// Puts a day to the report.
@@ -150,45 +165,44 @@ impl Bench {
         Ok(())
     }
 
-    /// Puts lists of many kinds to the checker, on a day; so many of them to `accept`, too.
+    /// Puts lists of many kinds to the checker, on a day; so many of them to `accept`, too, the order that the rule names among them.
     pub fn day(&mut self, day: &[u8], random: &mut Random, accepts: usize) -> Result<(), Failure> {
+        let history = read_log(&day[day.len().min(OPENING)..]).unwrap_or_default();
+        let all = transactions(&history);
+        let asked = lists::questions(random, &all, history.len());
+        self.questions(day, &asked)?;
+        for i in 0..accepts {
+            let (begin, list) = match all.last() {
+                Some(one) if i == 0 => {
+                    (one.begin as u32, given_order(&all, one).unwrap_or_default())
+                }
+                _ => asked[random.below(asked.len())].clone(),
+            };
+            self.accept(day, begin, &list)?;
+        }
+        Ok(())
+    }
+
+    /// Puts many questions on one day to the proved checker and to the model's.
+    fn questions(&mut self, day: &[u8], asked: &[lists::Asked]) -> Result<(), Failure> {
         let (opening, log) = day.split_at(day.len().min(OPENING));
-        let history = read_log(log);
-        let laid_out = history.as_ref().map(|history| transactions(history));
         let table = checker::table_from(opening);
-        let records = history.map_or(0, |history| history.len());
-        let asked = lists::questions(random, laid_out.as_deref().unwrap_or(&[]), records);
-        for (begin, list) in &asked {
-            let expected = match (&table, &laid_out) {
+        let all = read_log(log).map(|history| transactions(&history));
+        for (begin, list) in asked {
+            let expected = match (&table, &all) {
                 (None, _) => LENT,
                 (_, None) => BAD_LOG,
-                (Some(table), Some(transactions)) => {
-                    checker::check_day(table, transactions, *begin, list)
-                }
+                (Some(table), Some(all)) => checker::check_day(table, all, *begin, list),
             };
-            let list = checker::list_bytes(list);
-            let answer = entry(opening, log, *begin, &list);
+            let answer = entry(opening, log, *begin, &checker::list_bytes(list));
             self.tally.list(answer);
             if answer != expected {
-                let question = Question {
-                    opening: opening.to_vec(),
-                    log: log.to_vec(),
-                    begin: *begin,
-                    list,
-                };
-                return Err(differs(&question, answer, expected));
+                return Err(differs(
+                    &Question::on_day(day, *begin, list),
+                    answer,
+                    expected,
+                ));
             }
-        }
-        if accepts == 0 {
-            return Ok(());
-        }
-        if let Some(one) = laid_out.as_ref().and_then(|all| all.last()) {
-            let order = given_order(laid_out.as_deref().unwrap_or(&[]), one).unwrap_or_default();
-            self.accept(day, one.begin as u32, &order)?;
-        }
-        for _ in 1..accepts {
-            let (begin, list) = &asked[random.below(asked.len())];
-            self.accept(day, *begin, list)?;
         }
         Ok(())
     }
@@ -214,16 +228,9 @@ impl Bench {
     pub fn accept(&mut self, day: &[u8], begin: u32, list: &[u16]) -> Result<(), Failure> {
         let mut words = vec![begin.to_string().into_bytes()];
         words.extend(list.iter().map(|number| number.to_string().into_bytes()));
-        self.accept_words(day, &words).map_err(|difference| {
-            let (opening, log) = day.split_at(day.len().min(OPENING));
-            let list = checker::list_bytes(list);
-            let question = Question {
-                opening: opening.to_vec(),
-                log: log.to_vec(),
-                begin,
-                list,
-            };
-            Failure::question(&question, difference)
+        let result = self.accept_words(day, &words);
+        result.map_err(|difference| {
+            Failure::question(&Question::on_day(day, begin, list), difference)
         })
     }
 
@@ -265,7 +272,7 @@ fn unlike(printed: &str, expected: &str) -> String {
     let from = |text: &str| {
         text.split(' ')
             .skip(same.saturating_sub(1))
-            .take(8)
+            .take(4)
             .collect::<Vec<_>>()
             .join(" ")
     };
@@ -283,6 +290,21 @@ fn differs(question: &Question, answer: u8, expected: u8) -> Failure {
         question,
         format!("the checker answers {answer}, the model {expected}"),
     )
+}
+
+/// Whether every transaction of a day that a machine wrote has an order that explains it, those too that gave up or met Conflict.
+/// Of a long day the last ones are looked at.
+fn everyone_has_an_order(day: &[u8]) -> bool {
+    let (opening, log) = day.split_at(day.len().min(OPENING));
+    let (Some(table), Some(history)) = (checker::table_from(opening), read_log(log)) else {
+        return false;
+    };
+    let all = transactions(&history);
+    let explained = |one: &Transaction| match given_order(&all, one) {
+        Some(order) => checker::check_day(&table, &all, one.begin as u32, &order) == GRANTED,
+        None => false,
+    };
+    all.iter().rev().take(40).all(explained)
 }
 
 /// The day that a player has come to, as `save` would write it.

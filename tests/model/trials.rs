@@ -1,6 +1,9 @@
 //! The trials of document 01 that take a long script: days near 4,000 records, a full house, a turn that wraps.
 
+use crate::report::report_text;
 use crate::rules::{MOST_RECORDS, PLACES};
+use crate::script::{lines, Player};
+use crate::trial::day_of;
 
 /// A name, and a script in which comments say what document 01 tells.
 pub type Trial = (&'static str, Vec<u8>);
@@ -82,9 +85,31 @@ fn last_handle() -> String {
     text
 }
 
+/// Case A, closed as it stands.
+const CASE_A: &str = "begin\nread 32 0\nbegin\nbegin\nwrite 34 0 0000000000000007\ncommit 34\nread 33 0\nread 33 1\n\
+    write 32 1 0000000000000005\ncommit 32\ncommit 33\n";
+
+/// What document 01 says that the report prints for case A.
+const REPORT_A: &str =
+    "records 11 commits 2\n1 place 0 committed moment 10\n3 place 1 conflict moment 8\n\
+    4 place 2 committed moment 6\n";
+
+/// Whether the model's report on case A is document 01's.
+pub fn report_is_the_documents() -> bool {
+    let mut player = Player::new();
+    lines(CASE_A.as_bytes())
+        .into_iter()
+        .for_each(|line| player.play(line));
+    report_text(&day_of(&player)) == REPORT_A
+}
+
 /// All of these trials.
 pub fn all() -> Vec<Trial> {
     let trials = [
+        ("nothing", String::new()),
+        ("no-end", "begin".to_string()),
+        ("only-an-end", "\n".to_string()),
+        ("only-a-comment", "# begin".to_string()),
         ("records-3998", records_3998()),
         ("records-3999", records_3999()),
         ("records-3999-live", records_3999_live()),
