@@ -247,8 +247,18 @@ fn run_profiles(root: &Path, options: &Options, tally: &mut Tally) -> bool {
 
 /// Runs the self-test; gives whether every broken rule was found.
 fn run_self_test(root: &Path) -> bool {
-    println!("with one rule of the model broken a difference is found, and found again in the kept case:");
-    selftest::run(root, THREADS)
+    println!("with one rule of the model broken, a difference is found and made small, and the kept case fails again:");
+    let all = selftest::run(root, THREADS);
+    let count = breaks::ALL.len();
+    println!(
+        "{}",
+        if all {
+            format!("all {count} broken rules are found")
+        } else {
+            "not every broken rule is found".to_string()
+        }
+    );
+    all
 }
 
 /// Whether every call met every number that it can meet.
@@ -272,10 +282,11 @@ fn main() {
         exit(if agree { 0 } else { 1 });
     }
     agree = agree && (!whole || run_self_test(&root));
-    if !options.self_test {
-        agree = agree && run_profiles(&root, &options, &mut tally);
-        agree = agree && (!whole || all_met(&tally));
+    if options.self_test {
+        exit(if agree { 0 } else { 1 });
     }
+    agree = agree && run_profiles(&root, &options, &mut tally);
+    agree = agree && (!whole || all_met(&tally));
     if !agree {
         exit(1);
     }

@@ -218,11 +218,11 @@ impl Machine {
     /// Write: 8 bytes into the place's draft of that cell; it is not judged.
     pub fn write(&mut self, handle: u32, cell: u32, value: &[u8]) -> u8 {
         self.weighed = None;
-        let late = broken(Break::LentLate)
-            .then(|| self.live_place(handle).err())
-            .flatten();
+        if let (true, Err(number)) = (broken(Break::LentLate), self.live_place(handle)) {
+            return number;
+        }
         let Ok(value) = Value::try_from(value) else {
-            return late.unwrap_or(LENT);
+            return LENT;
         };
         let (place, cell) = match self.named(handle, cell) {
             Ok(found) => found,
