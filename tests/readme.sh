@@ -1,11 +1,17 @@
 #!/usr/bin/env bash
 # README.md as a new user follows it: its commands that build, play, report, check and link are run as they stand there, in their order, and
 # print what it shows. A command's answer may stand behind it (`# accepted`); every other line of its blocks is a line that some command
-# prints. From any directory.
+# prints. From any directory. They run in a copy of the checkout, with what is proved in it, and touch no file of the checkout itself.
 set -euo pipefail
 cd "$(dirname "${BASH_SOURCE[0]}")/.."
 scratch=$(mktemp -d)
-trap 'rm -rf "$scratch"; rm -f ./*.day' EXIT
+trap 'rm -rf "$scratch"' EXIT
+mkdir -p "$scratch/copy/target"
+cp -R README.md crates crates.txt examples include "$scratch/copy"
+for built in bin rlib stamp; do
+  [ ! -e "target/$built" ] || cp -R "target/$built" "$scratch/copy/target"
+done
+cd "$scratch/copy"
 
 failed=0
 while IFS= read -r line; do
