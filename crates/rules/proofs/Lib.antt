@@ -54,6 +54,7 @@ pub mod Shown
 pub mod Sound
 pub mod SoundAfter
 pub mod SoundKept
+pub mod SoundStep
 pub mod TakenApart
 pub mod Theorems
 pub mod Told
