@@ -1,123 +1,29 @@
--- The moment of a transaction moves with its records, one after the other, and a list is the company of a transaction exactly if all of it
--- is in the company, the transaction is listed and nobody unlisted commits before the moment. Assumes nothing.
+-- A list is the company of a transaction exactly if all of it is in the company, the transaction is listed and nobody unlisted commits before
+-- the moment. Rests on what holds at a moment. Assumes nothing.
 use Prim.Native.Nat.{ℕ, suc, _≤_, _<_}
 use mathlib.Core.Path.{_≡_, refl, sym, _∙_, ap, ap₂}
 use mathlib.Core.Logic.{_↔_, _⊎_, inl, inr, ⊎-elim, Iff·trans}
-use mathlib.Core.Bool.{Bool, true, false, not, cond, _&&_, _||_, false≢true}
+use mathlib.Core.Bool.{Bool, true, false, not, cond, _&&_}
 use mathlib.Core.List.{List, [], _∷_, List·Memᴰ, List·Memᴰ·tail}
 use lib.ListN.{length}
 use lib.Dec.{eqb, ltb}
 use native.Mathlib.Nat.{le-refl}
 use native.Mathlib.Omega.{arith}
-use borrow.Author.Tests.{eqb-true, eq-eqb, ne-eqb, ltb-true, lt-ltb, not-true}
+use borrow.Author.Tests.{eqb-true, eq-eqb, ltb-true, lt-ltb, not-true}
 use Rattle.basics.specs.Lists.{allIn, anyIn, member, distinct}
-use Rattle.basics.proofs.Bools.{split, clash, false-of-not, true-of-not, same-tests, and-left, and-right, and-both, and-swap, and-fails-left, and-fails-right, or-true, or-left, or-right, or-fails, or-false-right, cond-passes, cond-fails, equal-or-not}
-use Rattle.basics.proofs.Lists.{all-in-cong, any-in-at, any-in-fails, any-in-false}
+use Rattle.basics.proofs.Bools.{split, clash, true-of-not, same-tests, and-left, and-right, and-both, and-swap, and-fails-left, and-fails-right, or-true, or-left, or-right, or-false-right, cond-passes, cond-fails}
+use Rattle.basics.proofs.Lists.{all-in-cong, any-in-fails, any-in-false}
 use Rattle.rules.specs.declared.Record.{Record}
 use Rattle.rules.specs.Sizes.{Size}
 use Rattle.rules.specs.Daylog.{kind-starts, kind-commits}
 use Rattle.rules.specs.Layout.{walks}
-use Rattle.rules.specs.Day.{Event, whose, event, events, latest, is-transaction, commit-of, committed, moves-moment, moment-of, company-of, sets-moment}
+use Rattle.rules.specs.Day.{Event, whose, event, events, is-transaction, commit-of, committed, moment-of, company-of, sets-moment}
 use Rattle.rules.specs.Checker.{lists-company}
 use Rattle.rules.proofs.InTime.{has-stranger, no-stranger, in-company}
-use Rattle.rules.proofs.Seats.{walks-earlier}
-use Rattle.rules.proofs.Day.{event-cases, number-bounds, whose-starts, who-bound, who-transaction}
-use Rattle.rules.proofs.Commits.{committed-by, committed-ends, commit-event, commit-of-event, latest-none, moment-at-most}
+use Rattle.rules.proofs.Day.{event-cases, number-bounds, who-transaction}
+use Rattle.rules.proofs.Commits.{committed-by, commit-event, commit-of-event}
 use Rattle.rules.proofs.CompanyListed.{complete-says}
-
--- ---- the moment
-
--- the kinds that set the moment
-module _ (k : ℕ) where
-  pub sets-starts : kind-starts k ≡ true → sets-moment k ≡ true
-  unfolding sets-moment
-  sets-starts e = or-left (kind-starts k) (moves-moment k || kind-commits k) e
-
-  pub sets-moves : moves-moment k ≡ true → sets-moment k ≡ true
-  unfolding sets-moment
-  sets-moves e = or-right (kind-starts k) (moves-moment k || kind-commits k) (or-left (moves-moment k) (kind-commits k) e)
-
-  pub sets-commits : kind-commits k ≡ true → sets-moment k ≡ true
-  unfolding sets-moment
-  sets-commits e = or-right (kind-starts k) (moves-moment k || kind-commits k) (or-right (moves-moment k) (kind-commits k) e)
-
-  sets-none : kind-starts k ≡ false → moves-moment k ≡ false → kind-commits k ≡ false → sets-moment k ≡ false
-  unfolding sets-moment
-  sets-none s m c = or-fails (kind-starts k) (moves-moment k || kind-commits k) s (or-fails (moves-moment k) (kind-commits k) m c)
-
--- a transaction has no events before it starts
-pub none-yet : (test : Event → Bool) (earlier : List Record) (t : ℕ) → length earlier < t
-    → anyIn (λ e. eqb (e .who) t && test e) (events earlier) ≡ false
-none-yet test earlier t h =
-    any-in-fails (λ e. eqb (e .who) t && test e) (events earlier) λ e m.
-    and-fails-left (eqb (e .who) t) (test e) (ne-eqb (e .who) t (λ q. omega (arith, who-bound earlier m, number-bounds earlier m)))
-
--- a record's transaction has not committed before it
-pub uncommitted : (z : Size) (r : Record) (earlier : List Record) → walks z (r ∷ earlier) ≡ true → committed (events earlier) (whose earlier r) ≡ false
-uncommitted z r earlier w = false-of-not _ (λ c. committed-ends z r earlier (whose earlier r) w c refl)
-
--- the moment after one more record
-pub moment-more : (z : Size) (t : ℕ) (r : Record) (earlier : List Record) → walks z (r ∷ earlier) ≡ true
-    → moment-of (events (r ∷ earlier)) t
-    ≡ cond (eqb (whose earlier r) t && sets-moment (r .kind)) (suc (length earlier)) (moment-of (events earlier) t)
-unfolding moment-of committed commit-of latest anyIn events event
-moment-more z t r earlier w = equal-or-not (whose earlier r) t mine (λ q. rw (ne-eqb (whose earlier r) t q))
-  where
-    mine : whose earlier r ≡ t → moment-of (events (r ∷ earlier)) t
-        ≡ cond (eqb (whose earlier r) t && sets-moment (r .kind)) (suc (length earlier)) (moment-of (events earlier) t)
-    mine q =
-        let same = eq-eqb (whose earlier r) t q in
-        let before : committed (events earlier) t ≡ false = ap (committed (events earlier)) (sym q) ∙ uncommitted z r earlier w in
-        split (kind-commits (r .kind)) (λ c. rw (same, sets-commits (r .kind) c, c)) λ c.
-        split (moves-moment (r .kind)) (λ m. rw (same, sets-moves (r .kind) m, c, m, before, ne-eqb (suc (length earlier)) 0 (λ z. omega arith))) λ m.
-        split (kind-starts (r .kind))
-        (λ s.
-        let number = sym q ∙ whose-starts earlier r s in
-        rw (same, sets-starts (r .kind) s, c, m, before, latest-none _ (events earlier) (none-yet (λ e. moves-moment (e .kind)) earlier t (omega arith))) number)
-        (λ s. rw (same, sets-none (r .kind) s m c, c, m))
-
-module _ (t : ℕ) where
-  -- a transaction of a day started with the newest record or before
-  transaction-cases : (r : Record) (earlier : List Record) → is-transaction (events (r ∷ earlier)) t ≡ true
-      → (eqb (whose earlier r) t && sets-moment (r .kind) ≡ true) ⊎ (is-transaction (events earlier) t ≡ true)
-  unfolding is-transaction anyIn events event
-  transaction-cases r earlier i =
-      let number = eqb (suc (length earlier)) t in
-      let starts = kind-starts (r .kind) in
-      ⊎-elim
-      (λ p.
-      let s = and-right number starts p in
-      let mine = whose-starts earlier r s ∙ eqb-true (suc (length earlier)) t (and-left number starts p) in
-      inl (and-both (eqb (whose earlier r) t) (sets-moment (r .kind)) (eq-eqb (whose earlier r) t mine) (sets-starts (r .kind) s)))
-      inr (or-true (number && starts) (is-transaction (events earlier) t) i)
-
-  -- its name is a number of the day
-  transaction-number : (day : List Record) → is-transaction (events day) t ≡ true → t ≤ length day
-  unfolding is-transaction
-  transaction-number day i =
-      let x = any-in-at (λ e. eqb (e .number) t && kind-starts (e .kind)) (events day) i in
-      let same = eqb-true (x .0 .number) t (and-left (eqb (x .0 .number) t) (kind-starts (x .0 .kind)) (x .2)) in
-      omega (arith, number-bounds day (x .1))
-
-module _ (z : Size) (t : ℕ) where
-  -- what holds with each record that sets the moment, and stays so past another, holds of the day
-  pub record AtMoment (P : List Record → Type 0) : Type 0 where
-    pub on-set : (r : Record) (earlier : List Record) → walks z (r ∷ earlier) ≡ true → eqb (whose earlier r) t && sets-moment (r .kind) ≡ true
-        → moment-of (events (r ∷ earlier)) t ≡ suc (length earlier) → P (r ∷ earlier)
-    pub on-other : (r : Record) (earlier : List Record) → walks z (r ∷ earlier) ≡ true → eqb (whose earlier r) t && sets-moment (r .kind) ≡ false
-        → moment-of (events (r ∷ earlier)) t ≡ moment-of (events earlier) t → moment-of (events earlier) t ≤ length earlier
-        → P earlier → P (r ∷ earlier)
-
-  pub at-moment : (P : List Record → Type 0) → AtMoment P → (day : List Record) → walks z day ≡ true → is-transaction (events day) t ≡ true → P day
-  unfolding is-transaction anyIn events
-  at-moment P a [] w i = absurd (false≢true i)
-  at-moment P a (r ∷ earlier) w i =
-      let sets = eqb (whose earlier r) t && sets-moment (r .kind) in
-      let moment = moment-more z t r earlier w in
-      split sets (λ s. a .on-set r earlier w s (moment ∙ cond-passes _ _ s)) λ s.
-      let started = ⊎-elim (λ e. absurd (clash e s)) (λ e. e) (transaction-cases t r earlier i) in
-      a .on-other r earlier w s (moment ∙ cond-fails _ _ s) (moment-at-most earlier t (transaction-number t earlier started))
-      (at-moment P a earlier (walks-earlier z r earlier w .0) started)
+use Rattle.rules.proofs.Moments.{at-moment}
 
 -- ---- nobody unlisted commits before the moment
 

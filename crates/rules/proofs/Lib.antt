@@ -37,6 +37,7 @@ pub mod Mirror
 pub mod MirrorKinds
 pub mod MirrorStep
 pub mod Mirrored
+pub mod Moments
 pub mod NewDays
 pub mod OrdersSay
 pub mod PairsArise

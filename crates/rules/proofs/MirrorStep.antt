@@ -25,7 +25,7 @@ use Rattle.rules.proofs.Sound.{Clear, held-status}
 use Rattle.rules.proofs.Seats.{walks-earlier, fits-live, fits-uncommitted, moved-post, moved-commit, seat-here, seat-other}
 use Rattle.rules.proofs.Day.{begin-bound, whose-starts, whose-others}
 use Rattle.rules.proofs.Commits.{begins-differ, latest-none}
-use Rattle.rules.proofs.CompanyInTime.{none-yet}
+use Rattle.rules.proofs.Moments.{none-yet}
 use Rattle.rules.proofs.PairsArise.{any-own, committed-other, committed-own, commit-of-other, wrote-other}
 
 -- ---- a held place, in two parts

@@ -64,10 +64,6 @@ pub place-at-other : (b : Books) (i j : ℕ) (p : Place) → j ≢ i → place-a
 unfolding with-place
 place-at-other b i j p h = getD-set-other (b .places) i j p no-place h
 
-pub place-at-with-record : (b : Books) (i : ℕ) → place-at (with-record b) i ≡ place-at b i
-unfolding with-record
-place-at-with-record b i = refl
-
 pub place-at-opened : (i : ℕ) → i < width → place-at opened i ≡ freed no-place
 unfolding opened
 place-at-opened i h = getD-replicate width i (freed no-place) no-place h
