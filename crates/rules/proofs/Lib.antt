@@ -7,6 +7,7 @@ pub mod CellValues
 pub mod CellsRead
 pub mod CellsWritten
 pub mod Commits
+pub mod CommittedHeld
 pub mod CompanyInTime
 pub mod CompanyListed
 pub mod Conflict

@@ -1,16 +1,16 @@
 -- One record more: books stay sound whatever places changed, if each place is sound by itself, has the records that stood there, or is the one
 -- place that has the new record, and the log has room. So they do if one place changed and what stands there now fits. Assumes nothing.
 use Prim.Native.Nat.{ℕ, _+_, _≤_, _<_}
-use mathlib.Core.Path.{_≡_, refl, sym, _∙_, ap, subst}
+use mathlib.Core.Path.{_≡_, refl, sym, _∙_, ap}
 use mathlib.Core.Logic.{_⊎_, inl, inr, ⊎-elim}
 use mathlib.Core.Bool.{Bool, true, cond}
 use native.Mathlib.Omega.{arith}
-use Rattle.basics.proofs.Bools.{equal-or-not}
 use Rattle.basics.proofs.Below.{count-changed}
 use Rattle.rules.specs.declared.Place.{Place}
 use Rattle.rules.specs.Sizes.{Size, most-records}
 use Rattle.rules.specs.Books.{Books, place-at, is-live, is-committed, is-held, live-count, room-taken}
 use Rattle.rules.specs.Sound.{SoundPlace, Sound}
+use Rattle.rules.proofs.Shape.{each-changed}
 use Rattle.rules.proofs.Sound.{Differ}
 
 -- ---- any places changed
@@ -83,11 +83,10 @@ module _ (z : Size) (b after : Books) (i : ℕ) (there : i < z .places) (s : Sou
   unfolding live-count
   live-changed = count-changed _ _ (z .places) i there (λ j h other. ap is-live (others j h other))
 
-  -- what holds of place i, and of every place that stays as it was, holds of each
+  -- what holds of place i and what stood there, and of every place that stays as it was, holds of each
   each-place : (P : ℕ → Place → Place → Type 0) → P i (place-at b i) (place-at after i)
       → ((j : ℕ) → j < z .places → P j (place-at b j) (place-at b j)) → (j : ℕ) → j < z .places → P j (place-at b j) (place-at after j)
-  each-place P here stays j h =
-      equal-or-not j i (λ e. subst (λ (k : ℕ). P k (place-at b k) (place-at after k)) (sym e) here) (λ other. rw (others j h other) (stays j h))
+  each-place P here stays = each-changed b after i (z .places) others (λ j. P j (place-at b j)) (λ h. here) (λ j h other. stays j h)
 
   pub sound-after : after .records ≡ b .records + 1 → Fits z b (place-at b i) (place-at after i) → Sound z after
   unfolding room-taken
