@@ -44,7 +44,7 @@ abbrev pub Sealed : ℕ → List Record → Type 0
 Sealed t earlier = (p : ℕ) → seat earlier p .status ≡ 1 → seat earlier p .begin ≡ t → ⊥
 
 -- the kinds that commit
-pub commits-say : (k : ℕ) → (kind-commits k ≡ true) ↔ ((k ≡ commit-kind) ⊎ (k ≡ post-kind))
+commits-say : (k : ℕ) → (kind-commits k ≡ true) ↔ ((k ≡ commit-kind) ⊎ (k ≡ post-kind))
 unfolding kind-commits
 commits-say k = or-says (eqb-says k commit-kind) (eqb-says k post-kind)
 
