@@ -5,10 +5,11 @@ use mathlib.Core.Path.{_≡_, refl, sym, _∙_, ap}
 use mathlib.Core.Logic.{_≢_, ⊎-elim}
 use mathlib.Core.Bool.{true, false, false≢true}
 use mathlib.Core.List.{List, _∷_}
-use lib.ListN.{length, replicate}
+use lib.ListN.{length}
 use native.Mathlib.Omega.{arith}
 use Rattle.basics.specs.Bytes.{AreBytes}
 use Rattle.basics.proofs.Bools.{clash}
+use Rattle.basics.proofs.Bytes.{zeros-are-bytes}
 use Rattle.basics.proofs.Each.{each-none, each-cons, every-none, every-more}
 use Rattle.basics.proofs.Elements.{getD-replicate-all, getD-replicate-same, getD-map-all}
 use Rattle.rules.specs.declared.Place.{Place}
@@ -181,10 +182,7 @@ drafts-changed z b i p drafts es shape inside here =
 
 -- ---- a record's fields
 
--- zeros are bytes, and so is an unused value
-pub zeros-are-bytes : (n : ℕ) → AreBytes (replicate n 0)
-zeros-are-bytes n i = rw (getD-replicate-same {A = ℕ} n i 0) (omega arith)
-
+-- an unused value is in bytes
 pub zeros-in-bytes : AreBytes no-value
 zeros-in-bytes = zeros-are-bytes cell-bytes
 
