@@ -6,23 +6,23 @@ use mathlib.Core.Logic.{_↔_, _⊎_, inl, inr, ⊎-elim, Iff·trans}
 use mathlib.Core.Bool.{Bool, true, false, not, cond, _&&_}
 use mathlib.Core.List.{List, [], _∷_, List·Memᴰ, List·Memᴰ·tail}
 use lib.ListN.{length}
-use lib.Dec.{eqb, ltb}
+use lib.Dec.{eqb}
 use native.Mathlib.Nat.{le-refl}
 use native.Mathlib.Omega.{arith}
-use borrow.Author.Tests.{eqb-true, eq-eqb, ltb-true, lt-ltb, not-true}
+use borrow.Author.Tests.{not-true}
 use Rattle.basics.specs.Lists.{allIn, anyIn, member, distinct}
-use Rattle.basics.proofs.Bools.{split, clash, true-of-not, same-tests, and-left, and-right, and-both, and-swap, and-fails-left, and-fails-right, or-true, or-left, or-right, or-false-right, cond-passes, cond-fails}
+use Rattle.basics.proofs.Bools.{split, clash, true-of-not, same-tests, and-left, and-right, and-both, and-swap, and-fails-left, and-fails-right, or-false-right, cond-passes, cond-fails}
 use Rattle.basics.proofs.Lists.{all-in-cong, any-in-fails, any-in-false}
 use Rattle.rules.specs.declared.Record.{Record}
 use Rattle.rules.specs.Sizes.{Size}
 use Rattle.rules.specs.Daylog.{kind-starts, kind-commits}
 use Rattle.rules.specs.Layout.{walks}
-use Rattle.rules.specs.Day.{Event, whose, event, events, is-transaction, commit-of, committed, moment-of, company-of, sets-moment}
+use Rattle.rules.specs.Day.{Event, whose, event, events, is-transaction, moment-of, company-of, sets-moment}
 use Rattle.rules.specs.Checker.{lists-company}
 use Rattle.rules.proofs.InTime.{has-stranger, no-stranger, in-company}
-use Rattle.rules.proofs.Day.{event-cases, number-bounds, who-transaction}
-use Rattle.rules.proofs.Commits.{committed-by, commit-event, commit-of-event}
-use Rattle.rules.proofs.CompanyListed.{complete-says}
+use Rattle.rules.proofs.Day.{event-cases, number-bounds}
+use Rattle.rules.proofs.Commits.{committed-by, committed-begun, commit-event, commit-of-event}
+use Rattle.rules.proofs.CompanyListed.{in-company-says, complete-says}
 use Rattle.rules.proofs.Moments.{at-moment}
 
 -- ---- nobody unlisted commits before the moment
@@ -112,26 +112,15 @@ module _ (order : List ℕ) where
 -- who commits before the moment is in the company
 pub company-early : (z : Size) (t : ℕ) (day : List Record) {e : Event} → walks z day ≡ true → List·Memᴰ e (events day) → kind-commits (e .kind) ≡ true
     → e .number < moment-of (events day) t → in-company (events day) t (e .who) ≡ true
-unfolding in-company
 company-early z t day {e} w m c b =
-    let k = e .who in
-    let early = ltb (commit-of (events day) k) (moment-of (events day) t) in
-    let number = commit-of-event z day w m c in
-    or-right (eqb k t) (committed (events day) k && early)
-    (and-both (committed (events day) k) early (committed-by (events day) k m refl c) (lt-ltb (commit-of (events day) k) (moment-of (events day) t) (omega arith)))
+    in-company-says (events day) t (e .who) .1 (inr (committed-by (events day) (e .who) m refl c, omega (arith, commit-of-event z day w m c)))
 
 -- and who is in it is the transaction itself or commits before the moment
 pub company-cases : (t : ℕ) (day : List Record) (k : ℕ) → in-company (events day) t k ≡ true
     → (k ≡ t) ⊎ ((e : Event) × List·Memᴰ e (events day) × (kind-commits (e .kind) ≡ true) × (e .who ≡ k) × (e .number < moment-of (events day) t))
-unfolding in-company
 company-cases t day k h =
-    let early = ltb (commit-of (events day) k) (moment-of (events day) t) in
-    ⊎-elim (λ q. inl (eqb-true k t q))
-    (λ c.
-    let x = commit-event (events day) k (and-left (committed (events day) k) early c) in
-    let before = ltb-true (commit-of (events day) k) (moment-of (events day) t) (and-right (committed (events day) k) early c) in
-    inr (x .0, x .1, x .3, x .2, omega (arith, x .4)))
-    (or-true (eqb k t) (committed (events day) k && early) h)
+    ⊎-elim inl (λ c. let x = commit-event (events day) k (c .0) in inr (x .0, x .1, x .3, x .2, omega (arith, c .1, x .4)))
+    (in-company-says (events day) t k .0 h)
 
 module _ (z : Size) (t : ℕ) (day : List Record) (w : walks z day ≡ true) (known : is-transaction (events day) t ≡ true) where
   abbrev es : List Event
@@ -140,8 +129,7 @@ module _ (z : Size) (t : ℕ) (day : List Record) (w : walks z day ≡ true) (kn
   -- who is t or has committed is a transaction
   company-transaction : (k : ℕ) → in-company es t k ≡ true → is-transaction es k ≡ true
   company-transaction k h =
-      ⊎-elim (λ q. ap (is-transaction es) q ∙ known) (λ x. ap (is-transaction es) (sym (x .3)) ∙ who-transaction z day w (x .1))
-      (company-cases t day k h)
+      ⊎-elim (λ q. ap (is-transaction es) q ∙ known) (λ c. committed-begun z day w k (c .0)) (in-company-says es t k .0 h)
 
   -- so the company is told without asking for that
   company-is : (k : ℕ) → company-of es t k ≡ in-company es t k
@@ -154,7 +142,6 @@ module _ (z : Size) (t : ℕ) (day : List Record) (w : walks z day ≡ true) (kn
   -- everybody of the company is listed, exactly if t is and nobody unlisted commits before the moment
   complete-is : (order : List ℕ)
       → allIn (λ e. cond (kind-starts (e .kind) && company-of es t (e .number)) (member (e .number) order) true) es ≡ member t order && no-stranger t order es
-  unfolding in-company
   complete-is order =
       let it = member t order in
       let none = no-stranger t order es in
@@ -162,7 +149,7 @@ module _ (z : Size) (t : ℕ) (day : List Record) (w : walks z day ≡ true) (kn
       same-tests _ (it && none)
       (λ a.
       let lists : (k : ℕ) → in-company es t k ≡ true → member k order ≡ true = λ k h. complete .0 a k (company-is k ∙ h) in
-      and-both it none (lists t (or-left (eqb t t) _ (eq-eqb t t refl)))
+      and-both it none (lists t (in-company-says es t t .1 (inl refl)))
       (no-stranger-says order t z day w known .1 (λ e m c b. lists (e .who) (company-early z t day w m c b))))
       (λ h. complete .1 λ k c.
       ⊎-elim (λ q. ap (λ j. member j order) q ∙ and-left it none h)
