@@ -7,7 +7,7 @@ use Prim.Native.Nat.{ℕ, zero, suc, _+_, _-_, _*_, _/_, _%_, _^_, _<_, _≤_}
 use native.Mathlib.Nat.{pow-suc, div-lt-iff-lt-mul, zero-lt-suc}
 use native.Mathlib.Omega.{arith}
 use lib.Dec.{eqb, ltb}
-use lib.ListN.{length, take, drop, length-append, length-take, length-drop, take-append-drop}
+use lib.ListN.{length, take, drop, replicate, length-append, length-take, length-drop, take-append-drop}
 use lib.Seq.{length-take-le, take-append-le, drop-append-le, take-at, drop-at, drop-drop}
 use borrow.Author.Tests.{eqb-true, eq-eqb, ltb-true, lt-ltb}
 use Rattle.basics.specs.Lists.{allIn}
@@ -21,6 +21,10 @@ bytes-nil i = omega arith
 pub bytes-cons : (b : ℕ) (bs : List ℕ) → b < 256 → AreBytes bs → AreBytes (b ∷ bs)
 bytes-cons b bs h k zero = h
 bytes-cons b bs h k (suc i) = k i
+
+pub zeros-are-bytes : (n : ℕ) → AreBytes (replicate n 0)
+zeros-are-bytes zero = bytes-nil
+zeros-are-bytes (suc n) = bytes-cons 0 (replicate n 0) (omega arith) (zeros-are-bytes n)
 
 pub bytes-tail : (b : ℕ) (bs : List ℕ) → AreBytes (b ∷ bs) → AreBytes bs
 bytes-tail b bs h i = h (suc i)

@@ -9,6 +9,8 @@ pub mod Filled
 pub mod Flags
 pub mod Listed
 pub mod Lists
+pub mod Parted
+pub mod Regrouped
 pub mod Renamed
 pub mod SamePairs
 pub mod Says

@@ -15,7 +15,7 @@ use Rattle.rules.specs.Day.{is-transaction}
 use Rattle.rules.specs.Checker.{accepted, log-events, checked}
 use Rattle.rules.proofs.Daylog.{length-day-of}
 use Rattle.rules.proofs.LaidOut.{laid-out-has}
-use Rattle.rules.proofs.PairsInTime.{transaction-bound}
+use Rattle.rules.proofs.Moments.{transaction-bound}
 
 module _ (z : Size) (opening log : List ℕ) (t : ℕ) (order : List ℕ) where
   -- the opening table has a wrong length

@@ -18,7 +18,7 @@ use Rattle.rules.specs.Layout.{Seat, seat, walks}
 use Rattle.rules.specs.Day.{whose, event, events, latest, commit-of, sets-moment, wrote-cell}
 use Rattle.rules.proofs.InTime.{read-cell, has-stranger}
 use Rattle.rules.proofs.Seats.{LiveSeat, walks-earlier, fits-live, seat-by}
-use Rattle.rules.proofs.CompanyInTime.{moment-more}
+use Rattle.rules.proofs.Moments.{moment-more}
 use Rattle.listing.specs.Listed.{position}
 use Rattle.replay.specs.Kept.{Kept, mark, holder-after, laid, followed}
 use Rattle.explains.specs.Explained.{PastOnly}

@@ -15,9 +15,9 @@ use Rattle.rules.specs.State.{State, Outcome, refused, entry-bytes, state-of, l
 use Rattle.rules.specs.Steps.{open-rule, write-rule, read-rule, commit-rule, post-rule, order-rule, show-reasons, show-rule, show-of}
 use Rattle.rules.specs.Calls.{Call, Lending, issued}
 use Rattle.rules.specs.Calls as rule
-use Rattle.rules.specs.Kept.{gives-order, AsLent, NeitherLent}
+use Rattle.rules.specs.Kept.{AsLent, NeitherLent}
 use Rattle.rules.proofs.Reasons.{refused-or-not, refusals-change-nothing}
-use Rattle.rules.proofs.Unlent.{unlent, orderless}
+use Rattle.rules.proofs.Unlent.{unlent, gives-order, orderless}
 use Rattle.steps.proofs.Either.{log-stays, buffer-stays}
 use Rattle.machine.specs.declared.books.Books.{Books}
 use Rattle.machine.specs.declared.books.Answer.{Answer}

@@ -16,7 +16,7 @@ use Rattle.rules.specs.Layout.{walks}
 use Rattle.rules.specs.Day.{Event, event, events, latest, commit-of, committed, wrote-cell, written-value}
 use Rattle.rules.specs.History.{EachEvent, subhist, only, last-write}
 use Rattle.rules.proofs.LaidOut.{walks-before}
-use Rattle.rules.proofs.CompanyInTime.{uncommitted}
+use Rattle.rules.proofs.Moments.{uncommitted}
 use Rattle.rules.proofs.Settled.{each-event, Unchanged, unchanged, unchanged-back, unchanged-past}
 use Rattle.rules.proofs.HistoryParts.{only-own, only-other}
 

@@ -28,7 +28,7 @@ use Rattle.rules.specs.Run.{Machine, after-call}
 use Rattle.rules.proofs.Handles.{turn-of-below, place-of-below}
 use Rattle.rules.proofs.Day.{begin-bound, whose-starts, whose-others}
 use Rattle.rules.proofs.Commits.{begins-differ}
-use Rattle.rules.proofs.CompanyInTime.{none-yet}
+use Rattle.rules.proofs.Moments.{none-yet}
 use Rattle.rules.proofs.CellLaws.{with-cell-length, with-cell-in-bytes, cell-put, cell-elsewhere, draft-length, draft-in-bytes, with-draft-length, with-draft-in-bytes, draft-put, draft-of-other, draft-elsewhere, laid-over-bytes, laid-over-length, laid-over-at}
 use Rattle.rules.proofs.LastWrites.{wrote-past, value-past, wrote-elsewhere, value-elsewhere, value-of-other, wrote-here, value-here, last-elsewhere, last-here}
 use Rattle.rules.proofs.Mirror.{Holds, Mirrored, Valued}

@@ -1,15 +1,14 @@
 -- Laws of commits and moments in a day that walks: held places have different begin records, a transaction has at most one committing
--- event, and neither commit nor moment is older than the transaction. Assumes nothing.
+-- event, and commit and moment are numbers of the day. Assumes nothing.
 use Prim.Native.Nat.{ℕ, suc, _≤_}
 use mathlib.Core.Path.{_≡_, refl, sym, _∙_, ap}
-use mathlib.Core.Logic.{_↔_, _⊎_, ⊎-elim}
+use mathlib.Core.Logic.{_↔_, _⊎_, inl, inr, ⊎-elim}
 use mathlib.Core.Bool.{Bool, true, false, _&&_, false≢true}
 use mathlib.Core.List.{List, [], _∷_, List·Memᴰ, List·Memᴰ·head, List·Memᴰ·tail, List·Memᴰ·not-nil}
 use lib.ListN.{length}
 use lib.Dec.{eqb}
-use native.Mathlib.Nat.{le-refl}
 use native.Mathlib.Omega.{arith}
-use borrow.Author.Tests.{eqb-true, eqb-false, eq-eqb}
+use borrow.Author.Tests.{eqb-true, eq-eqb}
 use Rattle.basics.specs.Lists.{anyIn}
 use Rattle.basics.proofs.Bools.{split, and-left, and-right, and-both, false-of-not, true-of-not, or-false-left, or-false-right, equal-or-not}
 use Rattle.basics.proofs.Lists.{any-in-of, same-end}
@@ -18,9 +17,9 @@ use Rattle.rules.specs.declared.Record.{Record}
 use Rattle.rules.specs.Sizes.{Size}
 use Rattle.rules.specs.Daylog.{commit-kind, post-kind, kind-starts, kind-commits}
 use Rattle.rules.specs.Layout.{seat, fits, walks, Held}
-use Rattle.rules.specs.Day.{Event, whose, event, events, latest, commit-of, committed, moves-moment, moment-of}
+use Rattle.rules.specs.Day.{Event, whose, event, events, latest, is-transaction, commit-of, committed, moves-moment, moment-of}
 use Rattle.rules.proofs.Seats.{walks-earlier, seat-by, moved-post, moved-commit, seat-here, seat-other, fits-live, held-of-seat, seat-of-held}
-use Rattle.rules.proofs.Day.{event-cases, number-bounds, begin-bound, whose-starts, whose-others, who-bound}
+use Rattle.rules.proofs.Day.{event-cases, number-bounds, begin-bound, whose-starts, whose-others, who-bound, who-transaction}
 
 -- ---- held places
 
@@ -170,13 +169,6 @@ module _ (passes : Event → Bool) where
       (λ t. let x = latest-found (events day) t in omega (arith, number-bounds day (x .1), x .3))
       (λ f. omega (arith, latest-none (events day) f))
 
-  -- and if all that pass are a transaction's it is no older than that
-  pub latest-bound : (day : List Record) (t : ℕ) → ((e : Event) → passes e ≡ true → e .who ≡ t) → anyIn passes (events day) ≡ true
-      → t ≤ latest passes (events day)
-  latest-bound day t own q =
-      let x = latest-found (events day) q in
-      omega (arith, who-bound day (x .1), own (x .0) (x .2), x .3)
-
 -- ---- commit and moment
 
 module _ (day : List Record) (t : ℕ) where
@@ -187,35 +179,12 @@ module _ (day : List Record) (t : ℕ) where
   abbrev reads-it : Event → Bool
   reads-it e = eqb (e .who) t && moves-moment (e .kind)
 
-  -- what asks first for the transaction passes only its own events
-  own : (test : Event → Bool) (e : Event) → eqb (e .who) t && test e ≡ true → e .who ≡ t
-  own test e p = eqb-true (e .who) t (and-left (eqb (e .who) t) (test e) p)
-
-  -- there is no commit record exactly if the transaction is not committed
-  pub commit-none : (commit-of (events day) t ≡ 0) ↔ (committed (events day) t ≡ false)
-  unfolding commit-of committed
-  commit-none = latest-zero commits-it day
-
-  -- else it is no older than the transaction, and a number of the day
-  pub commit-bound : committed (events day) t ≡ true → t ≤ commit-of (events day) t
-  unfolding commit-of committed
-  commit-bound = latest-bound commits-it day t (own (λ e. kind-commits (e .kind)))
-
+  -- the commit record is a number of the day
   pub commit-at-most : commit-of (events day) t ≤ length day
   unfolding commit-of
   commit-at-most = latest-at-most commits-it day
 
-  -- so with the moment
-  pub moment-bound : t ≤ moment-of (events day) t
-  unfolding moment-of
-  moment-bound =
-      let read = latest reads-it (events day) in
-      split (committed (events day) t) (λ c. rw c (commit-bound c))
-      (λ c. rw c (split (eqb read 0) (λ q. rw q (le-refl t)) (λ q. rw q (bound (latest-some reads-it day (eqb-false read 0 q))))))
-    where
-      bound : anyIn reads-it (events day) ≡ true → t ≤ latest reads-it (events day)
-      bound = latest-bound reads-it day t (own (λ e. moves-moment (e .kind)))
-
+  -- so is the moment, if the transaction's begin is
   pub moment-at-most : t ≤ length day → moment-of (events day) t ≤ length day
   unfolding moment-of commit-of
   moment-at-most h =
@@ -247,6 +216,21 @@ module _ (es : List Event) (k : ℕ) where
   committed-by {e} m q c =
       any-in-of (λ f. eqb (f .who) k && kind-commits (f .kind)) es m
       (and-both (eqb (e .who) k) (kind-commits (e .kind)) (eq-eqb (e .who) k q) c)
+
+-- who has committed did so with the newest record, which is its own, or before
+pub committed-cases : (r : Record) (earlier : List Record) (k : ℕ) → committed (events (r ∷ earlier)) k ≡ true
+    → ((whose earlier r ≡ k) × (kind-commits (r .kind) ≡ true)) ⊎ (committed (events earlier) k ≡ true)
+unfolding event
+committed-cases r earlier k c =
+    let x = commit-event (events (r ∷ earlier)) k c in
+    ⊎-elim (λ q. inl (sym (ap (λ e. e .who) q) ∙ x .2, sym (ap (λ e. kind-commits (e .kind)) q) ∙ x .3))
+    (λ i. inr (committed-by (events earlier) k i (x .2) (x .3))) (event-cases r earlier (x .1))
+
+-- who has committed has begun
+pub committed-begun : (z : Size) (day : List Record) → walks z day ≡ true → (k : ℕ) → committed (events day) k ≡ true → is-transaction (events day) k ≡ true
+committed-begun z day w k c =
+    let x = commit-event (events day) k c in
+    ap (is-transaction (events day)) (sym (x .2)) ∙ who-transaction z day w (x .1)
 
 -- no record is of a transaction that has committed before it
 pub committed-ends : (z : Size) (r : Record) (earlier : List Record) (k : ℕ) → walks z (r ∷ earlier) ≡ true → committed (events earlier) k ≡ true

@@ -13,13 +13,19 @@ use Rattle.rules.specs.declared.Record.{Record}
 use Rattle.rules.specs.Daylog.{kind-starts}
 use Rattle.rules.specs.Day.{Event, events, is-transaction, commit-of, committed, moment-of, company-of}
 use Rattle.rules.specs.Checker.{lists-company}
+use Rattle.rules.proofs.InTime.{in-company}
 use Rattle.rules.proofs.Day.{started}
 
 -- those are the transaction itself and who committed before its moment
+pub in-company-says : (es : List Event) (t k : ℕ)
+    → (in-company es t k ≡ true) ↔ ((k ≡ t) ⊎ ((committed es k ≡ true) × (commit-of es k < moment-of es t)))
+unfolding in-company
+in-company-says es t k = or-says (eqb-says k t) (and-says Iff·rfl (ltb-says (commit-of es k) (moment-of es t)))
+
 pub company-says : (es : List Event) (t k : ℕ)
     → (company-of es t k ≡ true) ↔ ((is-transaction es k ≡ true) × ((k ≡ t) ⊎ ((committed es k ≡ true) × (commit-of es k < moment-of es t))))
-unfolding company-of
-company-says es t k = and-says Iff·rfl (or-says (eqb-says k t) (and-says Iff·rfl (ltb-says (commit-of es k) (moment-of es t))))
+unfolding company-of in-company
+company-says es t k = and-says Iff·rfl (in-company-says es t k)
 
 module _ (day : List Record) (t : ℕ) (order : List ℕ) where
   abbrev es : List Event

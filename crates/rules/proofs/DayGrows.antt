@@ -1,14 +1,15 @@
 -- What keeps table, drafts and day in step: a new day, a day with one record more, and books with one place changed. Rests on the laws of
 -- values last written and last committed. Assumes nothing.
 use Prim.Native.Nat.{ℕ, _<_}
-use mathlib.Core.Path.{_≡_, refl, sym, _∙_, ap, subst}
+use mathlib.Core.Path.{_≡_, refl, sym, _∙_, ap}
 use mathlib.Core.Logic.{_≢_, ⊎-elim}
 use mathlib.Core.Bool.{true, false, false≢true}
 use mathlib.Core.List.{List, _∷_}
-use lib.ListN.{length, replicate}
+use lib.ListN.{length}
 use native.Mathlib.Omega.{arith}
 use Rattle.basics.specs.Bytes.{AreBytes}
-use Rattle.basics.proofs.Bools.{clash, equal-or-not}
+use Rattle.basics.proofs.Bools.{clash}
+use Rattle.basics.proofs.Bytes.{zeros-are-bytes}
 use Rattle.basics.proofs.Each.{each-none, each-cons, every-none, every-more}
 use Rattle.basics.proofs.Elements.{getD-replicate-all, getD-replicate-same, getD-map-all}
 use Rattle.rules.specs.declared.Place.{Place}
@@ -23,7 +24,7 @@ use Rattle.rules.specs.Steps.{with-books, record-at}
 use Rattle.rules.specs.Run.{Machine, new-day, moved-on}
 use Rattle.rules.specs.Runs.{DayStarts}
 use Rattle.rules.specs.History.{last-write}
-use Rattle.rules.proofs.Shape.{place-at-same, place-at-other}
+use Rattle.rules.proofs.Shape.{place-at-same, place-at-other, each-changed}
 use Rattle.rules.proofs.LastWrites.{value-past, last-past}
 use Rattle.rules.proofs.Mirror.{Valued}
 
@@ -168,25 +169,20 @@ stays-read-marked p c n live d w = (live, refl, w)
 
 -- with one such place the others are as before
 pub changed-one : (z : Size) (b : Books) (i : ℕ) (p : Place) → Shaped b → i < width → StaysLive (place-at b i) p → AsBefore z b (with-place b i p)
-changed-one z b i p shape inside here j h =
-    equal-or-not j i
-    (λ e. subst (λ (k : ℕ). StaysLive (place-at b k) (place-at (with-place b i p) k)) (sym e) (rw (place-at-same i p shape inside) here))
-    (λ other. rw (place-at-other b i j p other) (stays-same (place-at b j)))
+changed-one z b i p shape inside here =
+    each-changed b (with-place b i p) i (z .places) (λ j h other. place-at-other b i j p other) (λ j. StaysLive (place-at b j))
+    (λ h. rw (place-at-same i p shape inside) here) (λ j h other. stays-same (place-at b j))
 
 -- and the drafts are right if those of the changed place and of the others are
 pub drafts-changed : (z : Size) (b : Books) (i : ℕ) (p : Place) (drafts : List ℕ) (es : List Event) → Shaped b → i < width → DraftRight z drafts es i p
     → ((j : ℕ) → j < z .places → j ≢ i → DraftRight z drafts es j (place-at b j)) → DraftsRight z (with-place b i p) drafts es
-drafts-changed z b i p drafts es shape inside here others j h =
-    equal-or-not j i
-    (λ e. subst (λ (k : ℕ). DraftRight z drafts es k (place-at (with-place b i p) k)) (sym e) (rw (place-at-same i p shape inside) here))
-    (λ other. rw (place-at-other b i j p other) (others j h other))
+drafts-changed z b i p drafts es shape inside here =
+    each-changed b (with-place b i p) i (z .places) (λ j h other. place-at-other b i j p other) (DraftRight z drafts es)
+    (λ h. rw (place-at-same i p shape inside) here)
 
 -- ---- a record's fields
 
--- zeros are bytes, and so is an unused value
-pub zeros-are-bytes : (n : ℕ) → AreBytes (replicate n 0)
-zeros-are-bytes n i = rw (getD-replicate-same {A = ℕ} n i 0) (omega arith)
-
+-- an unused value is in bytes
 pub zeros-in-bytes : AreBytes no-value
 zeros-in-bytes = zeros-are-bytes cell-bytes
 

@@ -12,7 +12,7 @@ use native.Mathlib.Omega.{arith}
 use borrow.Author.Tests.{eqb-true, eq-eqb}
 use Rattle.basics.specs.Lists.{anyIn}
 use Rattle.basics.specs.Walk.{Cycle}
-use Rattle.basics.proofs.Bools.{split, clash, false-of-not, and-left, and-right, and-both, and-fails-right, or-true, or-left, or-right, or-false-left, or-false-right, cond-passes, cond-fails}
+use Rattle.basics.proofs.Bools.{split, clash, false-of-not, and-left, and-right, and-both, and-fails-right, or-true, or-left, or-right, or-false-right, cond-passes, cond-fails}
 use Rattle.basics.proofs.Walk.{first-step, map-cycle, cycle-followed}
 use Rattle.rules.specs.declared.Record.{Record}
 use Rattle.rules.specs.Sizes.{Size}
@@ -22,13 +22,13 @@ use Rattle.rules.specs.Day.{Event, whose, event, events, is-transaction,
 use Rattle.rules.specs.Runs.{DayPair}
 use Rattle.rules.proofs.InTime.{arises}
 use Rattle.rules.proofs.Seats.{walks-earlier}
-use Rattle.rules.proofs.Day.{event-cases, event-in, whose-starts, who-transaction}
-use Rattle.rules.proofs.Commits.{commit-at-most, commit-event, committed-by, committed-ends, moment-at-most}
+use Rattle.rules.proofs.Day.{event-in, whose-starts, who-transaction}
+use Rattle.rules.proofs.Commits.{commit-at-most, committed-cases, committed-begun, committed-ends}
 use Rattle.rules.proofs.Settled.{settled, committed-then}
 use Rattle.rules.proofs.CompanyListed.{company-says}
-use Rattle.rules.proofs.CompanyInTime.{sets-starts, sets-commits, none-yet, moment-more}
+use Rattle.rules.proofs.Moments.{sets-commits, sets-nothing, begun-earlier, none-yet, moment-more, moment-counted}
 use Rattle.rules.proofs.PairsArise.{begun-before, one-more}
-use Rattle.rules.proofs.PairsInTime.{transaction-bound, newest}
+use Rattle.rules.proofs.PairsInTime.{newest}
 use Rattle.rules.proofs.Explaining.{before-differs}
 
 -- both committed, and K stands before M
@@ -48,17 +48,7 @@ explained-new z = record { each = λ t i. absurd (false≢true i); all = λ c. f
 -- ---- kinds
 
 module _ (k : ℕ) where
-  -- a kind that sets no moment starts, reads and commits nothing
-  sets-nothing : sets-moment k ≡ false → (kind-starts k ≡ false) × (kind-judged-read k ≡ false) × (kind-commits k ≡ false)
-  unfolding sets-moment
-  sets-nothing e =
-      let rest = or-false-right (kind-starts k) (kind-judged-read k || kind-commits k) e in (
-        or-false-left (kind-starts k) _ e,
-        or-false-left (kind-judged-read k) (kind-commits k) rest,
-        or-false-right (kind-judged-read k) (kind-commits k) rest,
-      )
-
-  -- one that sets the moment and starts nothing is a judged read or a commit
+  -- a kind that sets the moment and starts nothing is a judged read or a commit
   sets-judged : sets-moment k ≡ true → kind-starts k ≡ false → kind-judged-read k || eqb k commit-kind ≡ true
   unfolding sets-moment kind-starts kind-commits
   sets-judged e s =
@@ -90,13 +80,7 @@ nobody-behind z day k m h =
 -- with a record that sets no moment no pair arises
 arises-nothing : (z : Size) (r : Record) (day : List Record) (k : ℕ) → sets-moment (r .kind) ≡ false → arises z (events day) (event day r) k ≡ false
 unfolding arises event
-arises-nothing z r day k e = let n = sets-nothing (r .kind) e in rw (n .0, n .1, n .2)
-
--- who has committed has begun
-committed-begun : (z : Size) (day : List Record) → walks z day ≡ true → (k : ℕ) → committed (events day) k ≡ true → is-transaction (events day) k ≡ true
-committed-begun z day w k c =
-    let x = commit-event (events day) k c in
-    ap (is-transaction (events day)) (sym (x .2)) ∙ who-transaction z day w (x .1)
+arises-nothing z r day k e = let n = sets-nothing (r .kind) .0 e in rw (n .0, n .1, n .2)
 
 module _ (z : Size) (r : Record) (day : List Record) (w : walks z (r ∷ day) ≡ true) where
   -- whose it is, and the events with it and without it
@@ -109,32 +93,12 @@ module _ (z : Size) (r : Record) (day : List Record) (w : walks z (r ∷ day) �
   abbrev more : List Event
   more = events (r ∷ day)
 
-  -- a transaction has begun with the record, and is its own, or before
-  begun-cases : (t : ℕ) → is-transaction more t ≡ true → ((u ≡ t) × (kind-starts (r .kind) ≡ true)) ⊎ (is-transaction es t ≡ true)
-  unfolding is-transaction anyIn events event
-  begun-cases t i =
-      let number = eqb (suc (length day)) t in
-      let starts = kind-starts (r .kind) in
-      ⊎-elim
-      (λ p.
-      let s = and-right number starts p in
-      inl (whose-starts day r s ∙ eqb-true (suc (length day)) t (and-left number starts p), s))
-      inr (or-true (number && starts) (is-transaction es t) i)
-
   -- who had begun still has
   begun-still : (t : ℕ) → is-transaction es t ≡ true → is-transaction more t ≡ true
   unfolding is-transaction anyIn events
   begun-still t i = or-right (eqb (event day r .number) t && kind-starts (event day r .kind)) _ i
 
-  -- who has committed did so with the record, and is its own, or before
-  committed-cases : (k : ℕ) → committed more k ≡ true → ((u ≡ k) × (kind-commits (r .kind) ≡ true)) ⊎ (committed es k ≡ true)
-  unfolding event
-  committed-cases k c =
-      let x = commit-event more k c in
-      ⊎-elim (λ q. inl (sym (ap (λ e. e .who) q) ∙ x .2, sym (ap (λ e. kind-commits (e .kind)) q) ∙ x .3))
-      (λ i. inr (committed-by es k i (x .2) (x .3))) (event-cases r day (x .1))
-
-  -- in the second case the commit is as before
+  -- the commit of one who had committed is as before
   commit-still : (k : ℕ) → committed es k ≡ true → commit-of more k ≡ commit-of es k
   commit-still k c = settled z (r ∷ []) day k w c .same-commit
 
@@ -160,9 +124,7 @@ module _ (z : Size) (r : Record) (day : List Record) (w : walks z (r ∷ day) �
   module _ (t : ℕ) (still : eqb u t && sets-moment (r .kind) ≡ false) (i : is-transaction more t ≡ true) where
     -- t had begun, and its moment is as before
     begun-before-it : is-transaction es t ≡ true
-    begun-before-it =
-        ⊎-elim (λ x. absurd (clash (and-both (eqb u t) (sets-moment (r .kind)) (eq-eqb u t (x .0)) (sets-starts (r .kind) (x .1))) still)) (λ j. j)
-        (begun-cases t i)
+    begun-before-it = begun-earlier r day t i still
 
     moment-still : moment-of more t ≡ moment-of es t
     moment-still = moment-more z t r day w ∙ cond-fails _ _ still
@@ -173,7 +135,7 @@ module _ (z : Size) (r : Record) (day : List Record) (w : walks z (r ∷ day) �
     company-cases-before k c =
         ⊎-elim inl
         (λ a.
-        let first = moment-at-most day t (transaction-bound day t begun-before-it) in
+        let first = moment-counted day t begun-before-it in
         let was = committed-then (r ∷ []) day k (a .0) (omega (arith, a .1, moment-still, first)) in
         inr (was, omega (arith, a .1, moment-still, commit-still k was)))
         (company-says more t k .0 c .1)
@@ -200,7 +162,7 @@ module _ (z : Size) (r : Record) (day : List Record) (w : walks z (r ∷ day) �
   module _ (s : kind-starts (r .kind) ≡ true) where
     -- the company of the new one: itself, and some who had committed
     company-new : (k : ℕ) → company-of more u k ≡ true → (k ≡ u) ⊎ (committed es k ≡ true)
-    company-new k c = ⊎-elim inl (λ a. ⊎-elim (λ q. inl (sym (q .0))) inr (committed-cases k (a .0))) (company-says more u k .0 c .1)
+    company-new k c = ⊎-elim inl (λ a. ⊎-elim (λ q. inl (sym (q .0))) inr (committed-cases r day k (a .0))) (company-says more u k .0 c .1)
 
     -- whoever stands before another had committed
     front-committed : (k m : ℕ) → DayPair z more u k m → committed es k ≡ true
@@ -227,7 +189,7 @@ module _ (z : Size) (r : Record) (day : List Record) (w : walks z (r ∷ day) �
       moment-more z u r day w ∙ cond-passes _ _ (and-both (eqb u u) (sets-moment (r .kind)) (eq-eqb u u refl) (sets-commits (r .kind) c)) in
       company-says more u k .1 (
         committed-begun z (r ∷ day) w k h,
-        ⊎-elim (λ q. inl (sym (q .0))) (λ was. inr (h, omega (arith, commit-at-most day k, moment, commit-still k was))) (committed-cases k h),
+        ⊎-elim (λ q. inl (sym (q .0))) (λ was. inr (h, omega (arith, commit-at-most day k, moment, commit-still k was))) (committed-cases r day k h),
       )
 
   -- ---- all of it
@@ -251,7 +213,7 @@ module _ (z : Size) (r : Record) (day : List Record) (w : walks z (r ∷ day) �
         (λ e. each-more u (who-transaction z (r ∷ day) w (event-in [] day r)) (map-cycle (λ k m p. (company-all e k (p .0), company-all e m (p .1), p .2)) c))
         (λ e.
         let was : (k : ℕ) → committed more k ≡ true → committed es k ≡ true =
-        λ k h. ⊎-elim (λ q. absurd (clash (q .1) e)) (λ a. a) (committed-cases k h) in
+        λ k h. ⊎-elim (λ q. absurd (clash (q .1) e)) (λ a. a) (committed-cases r day k h) in
         known .all (map-cycle (λ k m p. (was k (p .0), was m (p .1), pair-committed k m (was m (p .1)) (p .2))) c))
 
 -- one record more: only a judged read and a commit have to be without a cycle themselves

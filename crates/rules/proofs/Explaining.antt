@@ -32,8 +32,8 @@ use Rattle.rules.proofs.Day.{event-cases, event-later, number-bounds}
 use Rattle.rules.proofs.Settled.{event-there, each-event, commit-last}
 use Rattle.rules.proofs.CompanyListed.{company-says, company-listed}
 use Rattle.rules.proofs.LegalInTurn.{owns-say}
-use Rattle.rules.proofs.CompanyInTime.{sets-moves, at-moment, ListedBefore, no-stranger-says, company-cases, company-told}
-use Rattle.rules.proofs.PairsInTime.{transaction-bound}
+use Rattle.rules.proofs.CompanyInTime.{ListedBefore, no-stranger-says, company-cases, company-told}
+use Rattle.rules.proofs.Moments.{sets-moves, transaction-bound, at-moment}
 use Rattle.rules.proofs.ReadsInTime.{reads-told, in-time-says}
 
 -- nobody stands before itself

@@ -22,7 +22,8 @@ use Rattle.rules.proofs.InTime.{in-company}
 use Rattle.rules.proofs.Seats.{frees-says, moved-by, seat-here, seat-other, walks-earlier, fits-uncommitted}
 use Rattle.rules.proofs.Day.{event-cases, whose-starts, whose-others}
 use Rattle.rules.proofs.LaidOut.{fields-says}
-use Rattle.rules.proofs.CompanyInTime.{sets-commits, at-moment, company-early, company-cases, company-told}
+use Rattle.rules.proofs.CompanyInTime.{company-early, company-cases, company-told}
+use Rattle.rules.proofs.Moments.{sets-commits, at-moment}
 
 -- ---- seats
 

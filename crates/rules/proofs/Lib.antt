@@ -7,6 +7,7 @@ pub mod CellValues
 pub mod CellsRead
 pub mod CellsWritten
 pub mod Commits
+pub mod CommittedHeld
 pub mod CompanyInTime
 pub mod CompanyListed
 pub mod Conflict
@@ -37,6 +38,7 @@ pub mod Mirror
 pub mod MirrorKinds
 pub mod MirrorStep
 pub mod Mirrored
+pub mod Moments
 pub mod NewDays
 pub mod OrdersSay
 pub mod PairsArise
@@ -54,6 +56,7 @@ pub mod Shown
 pub mod Sound
 pub mod SoundAfter
 pub mod SoundKept
+pub mod SoundStep
 pub mod TakenApart
 pub mod Theorems
 pub mod Told

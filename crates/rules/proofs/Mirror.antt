@@ -55,6 +55,10 @@ pub record HeldCommitted (z : Size) (b : Books) (t : ℕ) : Type 0 where
   pub done : is-committed (place-at b at) ≡ true
   pub named : place-at b at .begin ≡ t
 
+-- everybody who committed that day is held
+unfoldable pub CommittedAreHeld : Size → Books → List Record → Type 0
+CommittedAreHeld z b day = (t : ℕ) → committed (events day) t ≡ true → HeldCommitted z b t
+
 -- ---- the books and the day
 
 pub record Mirrored (z : Size) (b : Books) (day : List Record) : Type 0 where
@@ -63,8 +67,7 @@ pub record Mirrored (z : Size) (b : Books) (day : List Record) : Type 0 where
   pub counted : b .records ≡ length day
   pub walking : walks z day ≡ true
   pub places : (i : ℕ) → i < z .places → Mirrors z day i (place-at b i)
-  -- every transaction of the day that committed is held
-  pub kept : (t : ℕ) → committed (events day) t ≡ true → HeldCommitted z b t
+  pub kept : CommittedAreHeld z b day
 
 -- ---- the bytes and the day
 

@@ -1,5 +1,5 @@
 -- One record more: what the events tell of a transaction that the record is not of, and of the one that it is of; the places that mirror the day
--- still do, and so the books do. Stated for any record and any change of its place. Assumes nothing.
+-- still do, and so the books do. Stated for any record and any new places, then for a change of its place alone. Assumes nothing.
 use Prim.Native.Nat.{ℕ, suc, _+_, _≤_, _<_}
 use mathlib.Core.Path.{_≡_, refl, sym, _∙_, ap, subst}
 use mathlib.Core.Logic.{⊎-elim}
@@ -10,7 +10,7 @@ use lib.Dec.{eqb}
 use native.Mathlib.Omega.{arith}
 use borrow.Author.Tests.{eqb-true, eq-eqb, ne-eqb}
 use Rattle.basics.specs.Lists.{anyIn, member}
-use Rattle.basics.proofs.Bools.{split, clash, and-both, and-fails-left, or-true, or-false-left, or-false-right, equal-or-not}
+use Rattle.basics.proofs.Bools.{split, and-both, and-fails-left, or-false-left, or-false-right}
 use Rattle.basics.proofs.Says.{eqb-says, or-says}
 use Rattle.rules.specs.declared.Place.{Place}
 use Rattle.rules.specs.declared.Record.{Record}
@@ -20,12 +20,14 @@ use Rattle.rules.specs.Sound.{Sound}
 use Rattle.rules.specs.Daylog.{commit-kind, post-kind, kind-starts, kind-commits, kind-writes, kind-judged-read}
 use Rattle.rules.specs.Layout.{Seat, moved, seat, fits, fields-right, walks}
 use Rattle.rules.specs.Day.{Event, whose, event, events, latest, commit-of, committed, wrote-cell}
-use Rattle.rules.proofs.Mirror.{earliest, reads-it, Holds, Mirrors, HeldCommitted, Mirrored}
+use Rattle.rules.proofs.Mirror.{earliest, reads-it, Holds, Mirrors, HeldCommitted, CommittedAreHeld, Mirrored}
+use Rattle.rules.proofs.Shape.{each-changed}
 use Rattle.rules.proofs.Sound.{Clear, held-status}
 use Rattle.rules.proofs.Seats.{walks-earlier, fits-live, fits-uncommitted, moved-post, moved-commit, seat-here, seat-other}
 use Rattle.rules.proofs.Day.{begin-bound, whose-starts, whose-others}
 use Rattle.rules.proofs.Commits.{begins-differ, latest-none}
-use Rattle.rules.proofs.CompanyInTime.{none-yet}
+use Rattle.rules.proofs.Moments.{none-yet}
+use Rattle.rules.proofs.CommittedHeld.{committed-more}
 use Rattle.rules.proofs.PairsArise.{any-own, committed-other, committed-own, commit-of-other, wrote-other}
 
 -- ---- a held place, in two parts
@@ -200,24 +202,31 @@ commits-seat day r k =
     (λ p. rw (moved-post n r s p) (refl, sym (whose-starts day r (ap kind-starts p))))
     (or-says (eqb-says (r .kind) commit-kind) (eqb-says (r .kind) post-kind) .0 k)
 
--- books with one record more, changed at its place alone
-module _ (z : Size) (b after : Books) (r : Record) (day : List Record) (m : Mirrored z b day) (there : r .place < z .places)
-    (others : (j : ℕ) → j < z .places → (j ≡ r .place → ⊥) → place-at after j ≡ place-at b j) (right : fields-right z r ≡ true)
-    (fit : fits day r ≡ true) (here : Mirrors z (r ∷ day) (r .place) (place-at after (r .place))) where
+module _ (z : Size) (b : Books) (r : Record) (day : List Record) (m : Mirrored z b day) (right : fields-right z r ≡ true) (fit : fits day r ≡ true) where
   -- the day with the record walks
   walk : walks z (r ∷ day) ≡ true
   unfolding walks
   walk = and-both (walks z day) _ (m .walking) (and-both (fields-right z r) _ right fit)
 
-  -- its place mirrors it, and so does every other
-  mirrors-all : (j : ℕ) → j < z .places → Mirrors z (r ∷ day) j (place-at after j)
-  mirrors-all j h =
-      equal-or-not j (r .place) (λ e. subst (λ (k : ℕ). Mirrors z (r ∷ day) k (place-at after k)) (sym e) here)
-      (λ other. rw (others j h other) (mirrors-other z r day walk j (place-at b j) (λ e. other (sym e)) (m .places j h)))
+  -- books with one record more, whatever places changed, mirror it if each place does and everybody who committed is held
+  pub mirrored-step : (after : Books) → ((j : ℕ) → j < z .places → Mirrors z (r ∷ day) j (place-at after j)) → CommittedAreHeld z after (r ∷ day) → Shaped after
+      → Sound z after → after .records ≡ b .records + 1 → Mirrored z after (r ∷ day)
+  mirrored-step after places kept shape sound more =
+      record { shape = shape; sound = sound; counted = omega (arith, m .counted); walking = walk; places = places; kept = kept }
 
-  -- who committed before is held as before
-  kept-before : (t : ℕ) → HeldCommitted z b t → HeldCommitted z after t
-  kept-before t x =
+-- books with one record more, changed at its place alone
+module _ (z : Size) (b after : Books) (r : Record) (day : List Record) (m : Mirrored z b day) (there : r .place < z .places)
+    (others : (j : ℕ) → j < z .places → (j ≡ r .place → ⊥) → place-at after j ≡ place-at b j) (right : fields-right z r ≡ true)
+    (fit : fits day r ≡ true) (here : Mirrors z (r ∷ day) (r .place) (place-at after (r .place))) where
+  -- its place mirrors the day, and so does every other
+  mirrors-all : (j : ℕ) → j < z .places → Mirrors z (r ∷ day) j (place-at after j)
+  mirrors-all =
+      each-changed b after (r .place) (z .places) others (Mirrors z (r ∷ day)) (λ h. here)
+      (λ j h other. mirrors-other z r day (walk z b r day m right fit) j (place-at b j) (λ e. other (sym e)) (m .places j h))
+
+  -- who was held committed is so still
+  still-held : (t : ℕ) → HeldCommitted z b t → HeldCommitted z after t
+  still-held t x =
       let stays = others (x .at) (x .there) elsewhere in
       record { at = x .at; there = x .there; done = rw stays (x .done); named = rw stays (x .named) }
     where
@@ -227,8 +236,8 @@ module _ (z : Size) (b after : Books) (r : Record) (day : List Record) (m : Mirr
           fits-uncommitted day r fit (m .places (r .place) there .status ∙ ap (λ k. place-at b k .status) (sym e) ∙ status)
 
   -- and who commits with the record is held at its place
-  kept-here : kind-commits (r .kind) ≡ true → HeldCommitted z after (whose day r)
-  kept-here k =
+  held-here : kind-commits (r .kind) ≡ true → HeldCommitted z after (whose day r)
+  held-here k =
       let s = commits-seat day r k in
       let moves = seat-here r day (r .place) refl in
       let q = place-at after (r .place) in
@@ -241,20 +250,6 @@ module _ (z : Size) (b after : Books) (r : Record) (day : List Record) (m : Mirr
         named = sym (here .holds held .begin) ∙ ap (λ x. x .begin) moves ∙ s .1;
       }
 
-  -- so whoever committed is held
-  kept-all : (t : ℕ) → committed (events (r ∷ day)) t ≡ true → HeldCommitted z after t
-  unfolding events event
-  kept-all t done =
-      let e = event day r in
-      let es = events day in
-      split (committed es t) (λ k. kept-before t (m .kept t k)) λ f.
-      equal-or-not (whose day r) t
-      (λ own.
-      let k : kind-commits (r .kind) || committed es t ≡ true = sym (committed-own e es t own) ∙ done in
-      subst (HeldCommitted z after) own (kept-here (⊎-elim (λ c. c) (λ c. absurd (clash c f)) (or-true (kind-commits (r .kind)) (committed es t) k))))
-      (λ other. absurd (clash done (committed-other e es t other ∙ f)))
-
-  -- the books mirror the day with the record
+  -- so the books mirror the day with the record
   pub mirrored-more : Shaped after → Sound z after → after .records ≡ b .records + 1 → Mirrored z after (r ∷ day)
-  mirrored-more shape sound more =
-      record { shape = shape; sound = sound; counted = omega (arith, m .counted); walking = walk; places = mirrors-all; kept = kept-all }
+  mirrored-more = mirrored-step z b r day m right fit after mirrors-all (committed-more z b after r day (m .kept) still-held held-here)

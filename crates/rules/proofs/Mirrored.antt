@@ -3,13 +3,13 @@
 use Prim.Native.Nat.{ℕ, suc, _<_}
 use mathlib.Core.Path.{_≡_, refl, sym, _∙_, ap, subst}
 use mathlib.Core.Logic.{⊎-elim, Iff·rfl}
-use mathlib.Core.Bool.{true, false, cond, _&&_, _||_, false≢true}
+use mathlib.Core.Bool.{true, false, cond, _&&_, _||_}
 use mathlib.Core.List.{List, [], _∷_}
 use lib.ListN.{length}
 use lib.Dec.{ltb, leb, eqb}
 use native.Mathlib.Omega.{arith}
 use borrow.Author.Tests.{eq-eqb, lt-ltb}
-use Rattle.basics.specs.Lists.{anyIn, member}
+use Rattle.basics.specs.Lists.{member}
 use Rattle.basics.specs.Bytes.{same}
 use Rattle.basics.proofs.Bools.{and-both, never}
 use Rattle.basics.proofs.Says.{not-says, if-says}
@@ -22,7 +22,6 @@ use Rattle.rules.specs.Sound.{Sound}
 use Rattle.rules.specs.Cells.{draft-of}
 use Rattle.rules.specs.Daylog.{lowest-kind, highest-kind, begin-kind, judged-read-kind, own-read-kind, write-kind, commit-kind, give-up-kind, read-conflict-kind, commit-conflict-kind, post-kind, kind-starts, kind-frees, kind-has-cell, kind-has-value, no-value}
 use Rattle.rules.specs.Layout.{seat, fits, fields-right, walks}
-use Rattle.rules.specs.Day.{events, committed}
 use Rattle.rules.specs.State.{Outcome, refused, recorded}
 use Rattle.rules.specs.Steps.{number-of, record-at, turned-back, read-books, commit-books, own-read-of, granted-read-of, granted-commit-of, open-rule, begin-of, write-of, show-of, give-up-of, post-of, order-of, close-of}
 use Rattle.rules.specs.Calls.{Call, Lending}
@@ -38,6 +37,7 @@ use Rattle.rules.proofs.Sound.{sound-says}
 use Rattle.rules.proofs.SoundKept.{sound-opened, sound-closed}
 use Rattle.rules.proofs.SoundAfter.{shape-each, sound-each, sound-read, sound-commit}
 use Rattle.rules.proofs.Seats.{LiveSeat}
+use Rattle.rules.proofs.CommittedHeld.{none-committed}
 use Rattle.rules.proofs.MirrorStep.{mirrored-more}
 use Rattle.rules.proofs.MirrorKinds.{mirrors-freed, mirrors-begun, mirrors-posted, mirrors-marked, mirrors-own-read, mirrors-read, mirrors-sealed}
 
@@ -52,7 +52,7 @@ mirrors-blank z i p = record { status = refl; holds = never }
 module _ (z : Size) where
   blank-day : (b : Books) → Shaped b → Sound z b → b .records ≡ 0 → (freed-of : ℕ → Place)
       → ((i : ℕ) → i < z .places → place-at b i ≡ freed (freed-of i)) → Mirrored z b []
-  unfolding walks events committed anyIn
+  unfolding walks
   blank-day b shape sound none freed-of blank =
       record {
         shape = shape;
@@ -60,7 +60,7 @@ module _ (z : Size) where
         counted = none;
         walking = refl;
         places = λ i h. rw (blank i h) (mirrors-blank z i (freed-of i));
-        kept = λ t done. absurd (false≢true done);
+        kept = none-committed z b;
       }
 
   module _ (w : Within z) where

@@ -3,6 +3,7 @@
 use mathlib.Core.Path.{_≡_, refl}
 use mathlib.Core.Logic.{inl, inr}
 use lib.ListN.{length-replicate}
+use Rattle.basics.proofs.Bytes.{zeros-are-bytes}
 use Rattle.rules.specs.Sizes.{Size, table-bytes, drafts-bytes}
 use Rattle.rules.specs.Books.{Books, opened, closed}
 use Rattle.rules.specs.Numbers.{granted}
@@ -11,7 +12,6 @@ use Rattle.rules.specs.Steps.{with-books, open-rule, close-rule, close-o
 use Rattle.rules.specs.Calls.{Open, Close, issued}
 use Rattle.rules.specs.Run.{Machine, outcome, new-day, moved-on, after-call, fresh}
 use Rattle.rules.specs.Runs.{DayStarts, Starts, DaysFollow}
-use Rattle.rules.proofs.DayGrows.{zeros-are-bytes}
 use Rattle.rules.proofs.EachCall.{refused-or}
 use Rattle.rules.proofs.Running.{Kept, reached-kept}
 

@@ -20,7 +20,7 @@ use Rattle.rules.specs.History.{Before, Of, Commits, Writes, Wholly, Rea
 use Rattle.rules.proofs.Day.{who-bound, started}
 use Rattle.rules.proofs.Commits.{commit-event, committed-by, commit-of-event}
 use Rattle.rules.proofs.Settled.{written-known, commit-last}
-use Rattle.rules.proofs.CompanyInTime.{at-moment}
+use Rattle.rules.proofs.Moments.{at-moment}
 use Rattle.rules.proofs.CompanyListed.{company-says}
 use Rattle.rules.proofs.EventOrder.{before-in}
 use Rattle.rules.proofs.HistoryParts.{subhist-says}

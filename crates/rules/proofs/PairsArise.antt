@@ -12,34 +12,13 @@ use borrow.Author.Tests.{eq-eqb, ne-eqb, lt-ltb, le-ltb}
 use Rattle.basics.specs.Below.{anyBelow}
 use Rattle.basics.specs.Lists.{anyIn}
 use Rattle.basics.proofs.Bools.{split, false-of-not, same-tests, and-fails-left, and-fails-right, or-right, equal-or-not}
+use Rattle.basics.proofs.Regrouped.{and-over-or, absorbed, or-five}
 use Rattle.basics.proofs.Lists.{any-in-fails}
 use Rattle.basics.proofs.Says.{eqb-says, ltb-says, and-says, or-says, any-says, any-in-says}
 use Rattle.rules.specs.Sizes.{Size}
 use Rattle.rules.specs.Daylog.{kind-starts, kind-commits, kind-writes, kind-judged-read}
 use Rattle.rules.specs.Day.{Event, latest, is-transaction, commit-of, committed, wrote-cell, day-real-time, day-write-write, day-write-read, day-read-write, day-before}
 use Rattle.rules.proofs.InTime.{read-cell, committed-cell, arises}
-
--- ---- tests
-
--- tests taken together in another way
-and-over-or : (a b c d : Bool) → a && ((b && c) || d) ≡ (b && (a && c)) || (a && d)
-and-over-or true b c d = refl
-and-over-or false true c d = refl
-and-over-or false false c d = refl
-
-absorbed : (a b : Bool) → a || ((a && b) || false) ≡ a
-absorbed true b = refl
-absorbed false b = refl
-
-or-five : (a b c d f : Bool) → (a || (b || false)) || (c || (d || f)) ≡ a || (d || ((c || b) || f))
-or-five true b c d f = refl
-or-five false true true true f = refl
-or-five false true true false f = refl
-or-five false true false true f = refl
-or-five false true false false f = refl
-or-five false false true true f = refl
-or-five false false true false f = refl
-or-five false false false d f = refl
 
 -- ---- one event more, seen from a transaction
 

@@ -1,6 +1,6 @@
 -- A list of transactions keeps the pairs of a day exactly if, record by record, nobody listed comes to stand before one that is listed earlier.
 -- Rests on the pairs that arise with one event, and on the laws of events and commits. Assumes nothing.
-use Prim.Native.Nat.{ℕ, suc, _≤_}
+use Prim.Native.Nat.{ℕ, suc}
 use mathlib.Core.Path.{_≡_, refl, _∙_, ap}
 use mathlib.Core.Bool.{true, false, _&&_}
 use mathlib.Core.List.{List, [], _∷_, List·Memᴰ·head}
@@ -16,16 +16,12 @@ use Rattle.rules.specs.Daylog.{kind-starts}
 use Rattle.rules.specs.Layout.{walks}
 use Rattle.rules.specs.Day.{whose, event, events, is-transaction, day-before}
 use Rattle.rules.proofs.Seats.{walks-earlier}
-use Rattle.rules.proofs.CompanyInTime.{uncommitted}
+use Rattle.rules.proofs.Moments.{transaction-bound, uncommitted}
 use Rattle.rules.proofs.Settled.{read-known}
 use Rattle.rules.proofs.Day.{number-bounds, whose-starts, started, who-transaction}
 use Rattle.rules.proofs.Commits.{commit-at-most}
 use Rattle.rules.proofs.InTime.{arises, pairs-in-time}
 use Rattle.rules.proofs.PairsArise.{Newest, begun-before, one-more}
-
--- a transaction that has begun did so with one of the records
-pub transaction-bound : (day : List Record) (t : ℕ) → is-transaction (events day) t ≡ true → t ≤ length day
-transaction-bound day t q = let x = started day t q in omega (arith, number-bounds day (x .1), x .3)
 
 module _ (z : Size) where
   -- what is known of the newest event of a day that walks

@@ -2,7 +2,7 @@
 -- list carries right values exactly if its reads are in time. It holds of any day that walks. Assumes nothing.
 use Prim.Native.Nat.{ℕ, suc, _≤_, _<_}
 use mathlib.Core.Path.{_≡_, refl, sym, _∙_, ap, subst}
-use mathlib.Core.Logic.{_↔_, _⊎_, inl, inr, ⊎-elim, Iff·rfl, Iff·symm, Iff·trans}
+use mathlib.Core.Logic.{_↔_, inl, inr, ⊎-elim, Iff·rfl, Iff·symm, Iff·trans}
 use mathlib.Core.Bool.{Bool, true, false, cond, _&&_, _||_}
 use mathlib.Core.List.{List, [], _∷_, _++_, List·Memᴰ, append-assoc}
 use lib.ListN.{length}
@@ -14,7 +14,8 @@ use Rattle.basics.specs.Lists.{allIn, member, distinct, keeps}
 use Rattle.basics.specs.Bytes.{same}
 use Rattle.basics.proofs.Below.{any-of}
 use Rattle.basics.proofs.Bools.{split, clash, same-tests, and-left, and-both, or-left, or-right, equal-or-not, cond-passes, cond-fails}
-use Rattle.basics.proofs.Lists.{all-in-at, all-in-of, any-in-of, member-nil, member-head, member-tail, member-cases, member-rest, keeps-nil, keeps-cons, keeps-head, keeps-tail, distinct-head, distinct-tail}
+use Rattle.basics.proofs.Lists.{all-in-at, all-in-of, any-in-of, member-nil, member-head, member-tail, member-cases, member-rest, keeps-head, keeps-tail}
+use Rattle.basics.proofs.Parted.{Parted, parted-first, parted-next}
 use Rattle.basics.proofs.Each.{each-none, each-cons}
 use Rattle.basics.proofs.Says.{eqb-says, and-says, both-says}
 use Rattle.rules.specs.declared.Record.{Record}
@@ -70,50 +71,6 @@ module _ (z : Size) (es : List Event) (k m c : ℕ) (other : k ≡ m → ⊥) wh
       rw (ne-eqb k m other)
       (or-right (day-real-time es k m) _ (or-right (day-write-write z es k m) _ (or-right (day-write-read es k m) (day-read-write es k m)
       (rw (a .0) (any-in-of read-before es i right)))))
-
--- ---- a list and those listed earlier
-
--- a list taken apart at a place: those listed before it, the last listed first, and those from there on; nobody stands before one listed earlier
-pub record Parted (stands : ℕ → ℕ → Bool) (order before later : List ℕ) : Type 0 where
-  pub before-kept : keeps (λ j k. stands k j) before ≡ true
-  pub later-kept : keeps stands later ≡ true
-  pub later-once : distinct later ≡ true
-  pub across : (k m : ℕ) → member k before ≡ true → member m later ≡ true → (stands m k ≡ false) × (m ≡ k → ⊥)
-  pub listed : (k : ℕ) → (member k order ≡ true) ↔ ((member k before ≡ true) ⊎ (member k later ≡ true))
-
-module _ (stands : ℕ → ℕ → Bool) (order : List ℕ) where
-  -- all is still to come, and one more is listed
-  pub parted-first : distinct order ≡ true → keeps stands order ≡ true → Parted stands order [] order
-  parted-first d h =
-      record {
-        before-kept = keeps-nil (λ j k. stands k j);
-        later-kept = h;
-        later-once = d;
-        across = λ k m i. absurd (clash i (member-nil k));
-        listed = λ k. (inr, ⊎-elim (λ i. absurd (clash i (member-nil k))) (λ i. i));
-      }
-
-  pub parted-next : (before : List ℕ) (m : ℕ) (later : List ℕ) → Parted stands order before (m ∷ later) → Parted stands order (m ∷ before) later
-  parted-next before m later p =
-      record {
-        before-kept = keeps-cons (λ j k. stands k j) m before (λ k i. p .across k m i (member-head m m later refl) .0) (p .before-kept);
-        later-kept = keeps-tail stands m later (p .later-kept);
-        later-once = distinct-tail m later (p .later-once);
-        across = λ k n i j. ⊎-elim
-            (λ q. (
-              ap (stands n) q ∙ keeps-head stands m later (p .later-kept) n j,
-              λ o. clash (subst (λ (x : ℕ). member x later ≡ true) (o ∙ q) j) (distinct-head m later (p .later-once)),
-            ))
-            (λ b. p .across k n b (member-tail n m later j)) (member-cases k m before i);
-        listed = λ k. (
-          λ i.
-              ⊎-elim (λ b. inl (member-tail k m before b)) (λ l. ⊎-elim (λ q. inl (member-head k m before q)) inr (member-cases k m later l))
-              (p .listed k .0 i),
-          λ i. p .listed k .1 (
-              ⊎-elim (λ b. ⊎-elim (λ q. inr (member-head k m later q)) inl (member-cases k m before b)) (λ l. inr (member-tail k m later l)) i
-              ),
-        );
-      }
 
 -- ---- what a list carries
 

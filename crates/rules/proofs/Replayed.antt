@@ -2,12 +2,13 @@
 -- that acceptance asks of pairs, reads and own reads. Assumes nothing.
 use Prim.Native.Nat.{ℕ}
 use mathlib.Core.Path.{_≡_, refl, sym, _∙_, ap}
-use mathlib.Core.Bool.{Bool, true, false, not, cond, _&&_}
+use mathlib.Core.Bool.{true, not, cond, _&&_}
 use mathlib.Core.List.{List, [], _∷_}
 use lib.Dec.{eqb}
 use Rattle.basics.specs.Lists.{allIn, member, distinct, keeps}
 use Rattle.basics.specs.Bytes.{same}
-use Rattle.basics.proofs.Bools.{and-left, and-right, and-across, and-when}
+use Rattle.basics.proofs.Bools.{and-left, and-right, and-when}
+use Rattle.basics.proofs.Regrouped.{four-across, one-behind}
 use Rattle.basics.proofs.Lists.{all-in-at, all-in-of}
 use Rattle.rules.specs.declared.Record.{Record}
 use Rattle.rules.specs.Sizes.{Size}
@@ -19,20 +20,6 @@ use Rattle.rules.proofs.InTime.{arises, pairs-in-time, table-by, reads-
 use Rattle.rules.proofs.CompanyInTime.{company-told}
 use Rattle.rules.proofs.PairsInTime.{pairs-told}
 use Rattle.rules.proofs.ReadsInTime.{reads-told}
-
--- four tests of earlier events and four of one more are four tests of all
-four-across : (a b c d a′ b′ c′ d′ : Bool)
-    → (a && (b && (c && d))) && (a′ && (b′ && (c′ && d′))) ≡ (a && a′) && ((b && b′) && ((c && c′) && (d && d′)))
-four-across a b c d a′ b′ c′ d′ =
-    and-across a (b && (c && d)) a′ (b′ && (c′ && d′))
-    ∙ ap (λ x. (a && a′) && x) (and-across b (c && d) b′ (c′ && d′) ∙ ap (λ x. (b && b′) && x) (and-across c d c′ d′))
-
--- one more test behind four
-one-behind : (a b c d x : Bool) → (a && (b && (c && d))) && x ≡ a && (b && (c && (d && x)))
-one-behind true true true d x = refl
-one-behind true true false d x = refl
-one-behind true false c d x = refl
-one-behind false b c d x = refl
 
 module _ (z : Size) (opening : List ℕ) (t : ℕ) (order : List ℕ) where
   -- a replay breaks nothing exactly if each of the four is right

@@ -64,10 +64,6 @@ pub place-at-other : (b : Books) (i j : ℕ) (p : Place) → j ≢ i → place-a
 unfolding with-place
 place-at-other b i j p h = getD-set-other (b .places) i j p no-place h
 
-pub place-at-with-record : (b : Books) (i : ℕ) → place-at (with-record b) i ≡ place-at b i
-unfolding with-record
-place-at-with-record b i = refl
-
 pub place-at-opened : (i : ℕ) → i < width → place-at opened i ≡ freed no-place
 unfolding opened
 place-at-opened i h = getD-replicate width i (freed no-place) no-place h
@@ -75,6 +71,13 @@ place-at-opened i h = getD-replicate width i (freed no-place) no-place h
 pub place-at-closed : {b : Books} (i : ℕ) → Shaped b → i < width → place-at (closed b) i ≡ freed (place-at b i)
 unfolding closed
 place-at-closed {b} i s h = getD-map-within freed (b .places) i no-place no-place (inside s h)
+
+-- books that differ at one place alone: what holds of that place, and of each other as it was, holds of each
+pub each-changed : (b after : Books) (i n : ℕ) → ((j : ℕ) → j < n → j ≢ i → place-at after j ≡ place-at b j) → (P : ℕ → Place → Type 0)
+    → (i < n → P i (place-at after i)) → ((j : ℕ) → j < n → j ≢ i → P j (place-at b j)) → (j : ℕ) → j < n → P j (place-at after j)
+each-changed b after i n others P here stays j h =
+    equal-or-not j i (λ e. subst (λ (k : ℕ). P k (place-at after k)) (sym e) (here (subst (λ (k : ℕ). k < n) e h)))
+    (λ other. rw (others j h other) (stays j h other))
 
 -- ---- the shape
 
@@ -101,9 +104,9 @@ shaped-with-record s = shaped-of (s .places) (λ i h. shaped-wide i s h)
 pub shaped-with-place : {b : Books} (i : ℕ) {p : Place} → Wide p → Shaped b → Shaped (with-place b i p)
 unfolding with-place
 shaped-with-place {b} i {p} w s =
-    shaped-of (length-set (b .places) i p ∙ s .places) λ j h.
-    equal-or-not j i (λ e. subst (λ (k : ℕ). Wide (place-at (with-place b i p) k)) (sym e) (subst Wide (sym (place-at-same i p s (subst (λ (k : ℕ). k < width) e h))) w))
-    (λ other. subst Wide (sym (place-at-other b i j p other)) (shaped-wide j s h))
+    shaped-of (length-set (b .places) i p ∙ s .places)
+    (each-changed b (with-place b i p) i width (λ j h other. place-at-other b i j p other) (λ j q. Wide q)
+    (λ h. subst Wide (sym (place-at-same i p s h)) w) (λ j h other. shaped-wide j s h))
 
 -- who is free and who is live depends on the places alone, and not on the record count
 module _ (z : Size) (b : Books) where

@@ -144,6 +144,11 @@ module _ (z : Size) (records : ℕ) (p : Place) where
 
 -- ---- the books
 
+-- of the places that pass, no two have the same record
+abbrev pub Differ : Size → Books → (Place → Bool) → (Place → ℕ) → Type 0
+Differ z b passes key =
+    (i j : ℕ) → i < z .places → j < z .places → passes (place-at b i) ≡ true → passes (place-at b j) ≡ true → key (place-at b i) ≡ key (place-at b j) → i ≡ j
+
 module _ (z : Size) (b : Books) where
   module _ (passes : Place → Bool) (key : Place → ℕ) where
     -- two places pass and have the same record
@@ -151,7 +156,7 @@ module _ (z : Size) (b : Books) where
     Alike i j = (passes (place-at b i) ≡ true) × ((passes (place-at b j) ≡ true) × (key (place-at b i) ≡ key (place-at b j)))
 
     -- two that are alike are one, if no place is like a lower one
-    alike-is-same : ((i : ℕ) → i < z .places → (j : ℕ) → j < i → Alike i j → ⊥) → (i j : ℕ) → i < z .places → j < z .places → passes (place-at b i) ≡ true → passes (place-at b j) ≡ true → key (place-at b i) ≡ key (place-at b j) → i ≡ j
+    alike-is-same : ((i : ℕ) → i < z .places → (j : ℕ) → j < i → Alike i j → ⊥) → Differ z b passes key
     alike-is-same apart i j h k p q e =
         elim (decLt j i) [
           | yes below ↦ absurd (apart i h j below (p, (q, e)))
@@ -159,7 +164,7 @@ module _ (z : Size) (b : Books) where
         ]
 
     -- the test that records differ says so of any two places
-    pub differ-says : (differ z b passes key ≡ true) ↔ ((i j : ℕ) → i < z .places → j < z .places → passes (place-at b i) ≡ true → passes (place-at b j) ≡ true → key (place-at b i) ≡ key (place-at b j) → i ≡ j)
+    pub differ-says : (differ z b passes key ≡ true) ↔ Differ z b passes key
     unfolding differ
     differ-says =
         Iff·trans

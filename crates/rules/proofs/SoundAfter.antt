@@ -1,20 +1,19 @@
--- Every call keeps the books sound and keeps their shape. Rests on the shape of changed places, on the clauses of soundness and on what is asked of
--- each call. Assumes nothing.
+-- Every call keeps the books sound and keeps their shape. Rests on the shape of changed places, on the clauses of soundness, on the step of one
+-- record and on what is asked of each call. Assumes nothing.
 use Prim.Native.Nat.{ℕ, _+_, _≤_, _<_}
-use mathlib.Core.Path.{_≡_, refl, sym, _∙_, ap, subst}
+use mathlib.Core.Path.{_≡_, refl, sym, subst}
 use mathlib.Core.Logic.{_⊎_, inl, inr, ⊎-elim}
-use mathlib.Core.Bool.{Bool, true, cond}
+use mathlib.Core.Bool.{true}
 use lib.ListN.{length, getD}
 use lib.Seq.{getD-set-same, getD-set-other}
 use lib.Dec.{eqb}
 use native.Mathlib.Omega.{arith}
 use borrow.Author.Tests.{eqb-true, eqb-false}
 use Rattle.basics.proofs.Bools.{split, equal-or-not, never}
-use Rattle.basics.proofs.Below.{count-changed}
 use Rattle.basics.proofs.Elements.{getD-replicate-same}
 use Rattle.rules.specs.declared.Place.{Place}
 use Rattle.rules.specs.Sizes.{Size, Within, width, most-records}
-use Rattle.rules.specs.Books.{Books, Shaped, place-at, is-live, is-committed, is-held, first-read, last-read, first-kept, no-reads, freed, begun, posted, marked, read-marked, sealed, with-place, with-record, lowest-free, live-count, room-taken}
+use Rattle.rules.specs.Books.{Books, Shaped, place-at, is-held, first-read, last-read, first-kept, no-reads, freed, begun, posted, marked, read-marked, sealed, with-place, with-record, lowest-free, room-taken}
 use Rattle.rules.specs.Sound.{SoundPlace, Sound}
 use Rattle.rules.specs.Handles.{place-of}
 use Rattle.rules.specs.State.{State, refused, recorded}
@@ -26,92 +25,8 @@ use Rattle.rules.proofs.EachCall.{EachOutcome, each-call}
 use Rattle.rules.proofs.Handles.{place-of-below}
 use Rattle.rules.proofs.Shape.{Wide, wide-freed, wide-begun, wide-posted, wide-marked, wide-read-marked, wide-sealed, place-at-same, place-at-other, shaped-wide, shaped-opened, shaped-closed, shaped-with-record, shaped-with-place}
 use Rattle.rules.proofs.Sound.{ReadsSound, HeldSound, clear-place, held-place, held-of-place, held-says, sound-says}
+use Rattle.rules.proofs.SoundStep.{Fits, sound-after}
 use Rattle.rules.proofs.SoundKept.{blank-freed, sound-opened, sound-closed}
-
--- ---- one place changed, one record more
-
--- a sound place is sound with more records
-sound-more : (z : Size) (n m : ℕ) (p : Place) → n ≤ m → SoundPlace z n p → SoundPlace z m p
-sound-more z n m p h s =
-    record {
-      status-known = s .status-known;
-      free-clear = s .free-clear;
-      begin-counted = omega (arith, s .begin-counted);
-      commit-counted = omega (arith, s .commit-counted);
-      first-counted = λ c k. omega (arith, s .first-counted c k);
-      last-counted = λ c k. omega (arith, s .last-counted c k);
-      held-begun = s .held-begun;
-      committed-sealed = s .committed-sealed;
-      live-unsealed = s .live-unsealed;
-      reads-ordered = s .reads-ordered;
-      begin-first = s .begin-first;
-    }
-
--- a place may stand where another stood, with one record more
-pub record Fits (z : Size) (b : Books) (old new : Place) : Type 0 where
-  -- it is sound by itself
-  pub alone : SoundPlace z (b .records + 1) new
-  -- its begin record and its commit record are the new record or those that stood there
-  pub begin : is-held new ≡ true → (new .begin ≡ b .records + 1) ⊎ ((is-held old ≡ true) × (new .begin ≡ old .begin))
-  pub commit : is-committed new ≡ true → (new .commit ≡ b .records + 1) ⊎ ((is-committed old ≡ true) × (new .commit ≡ old .commit))
-  -- the log has room
-  pub room : room-taken z b + 1 + cond (is-live new) 1 0 ≤ most-records + cond (is-live old) 1 0
-
--- books that differ from sound ones at place i alone, where a place stands that fits
-module _ (z : Size) (b after : Books) (i : ℕ) (there : i < z .places) (s : Sound z b)
-    (others : (j : ℕ) → j < z .places → (j ≡ i → ⊥) → place-at after j ≡ place-at b j) where
-  module _ (passes : Place → Bool) (key : Place → ℕ) where
-    -- no two places that pass have the same record
-    abbrev Differ : Books → Type 0
-    Differ c =
-        (j k : ℕ) → j < z .places → k < z .places → passes (place-at c j) ≡ true → passes (place-at c k) ≡ true
-        → key (place-at c j) ≡ key (place-at c k) → j ≡ k
-
-    -- the record of place i is the new one or the one that stood there
-    abbrev NewOrOld : Type 0
-    NewOrOld = (key (place-at after i) ≡ b .records + 1) ⊎ ((passes (place-at b i) ≡ true) × (key (place-at after i) ≡ key (place-at b i)))
-
-    module _ (apart : Differ b) (counted : (j : ℕ) → j < z .places → key (place-at b j) ≤ b .records)
-        (new-or-old : passes (place-at after i) ≡ true → NewOrOld) where
-      -- place i has no other's record
-      alone-with : (k : ℕ) → k < z .places → (k ≡ i → ⊥) → passes (place-at after i) ≡ true → passes (place-at after k) ≡ true
-          → key (place-at after i) ≡ key (place-at after k) → ⊥
-      alone-with k h other p q e =
-          let stays = others k h other in
-          let same : key (place-at after i) ≡ key (place-at b k) = e ∙ ap key stays in
-          ⊎-elim (λ fresh. let bound = counted k h in omega arith)
-          (λ old. other (sym (apart i k there h (old .0) (rw stays at q) (sym (old .1) ∙ same)))) (new-or-old p)
-
-      -- the record of a place, and the test at another name of the place
-      abbrev key-after : ℕ → ℕ
-      key-after j = key (place-at after j)
-
-      moved : {j k : ℕ} → j ≡ k → passes (place-at after j) ≡ true → passes (place-at after k) ≡ true
-      moved e = subst (λ (n : ℕ). passes (place-at after n) ≡ true) e
-
-      still-apart : Differ after
-      still-apart j k h m p q e =
-          equal-or-not j i
-          (λ ji. equal-or-not k i (λ ki. ji ∙ sym ki) (λ ki. absurd (alone-with k m ki (moved ji p) q (ap key-after (sym ji) ∙ e))))
-          (λ ji. equal-or-not k i (λ ki. absurd (alone-with j h ji (moved ki q) p (ap key-after (sym ki) ∙ sym e)))
-          (λ ki. let one = others j h ji in let two = others k m ki in apart j k h m (rw one at p) (rw two at q) (sym (ap key one) ∙ e ∙ ap key two)))
-
-  live-changed : live-count z after + cond (is-live (place-at b i)) 1 0 ≡ live-count z b + cond (is-live (place-at after i)) 1 0
-  unfolding live-count
-  live-changed = count-changed _ _ (z .places) i there (λ j h other. ap is-live (others j h other))
-
-  pub sound-after : after .records ≡ b .records + 1 → Fits z b (place-at b i) (place-at after i) → Sound z after
-  unfolding room-taken
-  sound-after more f =
-      record {
-        room = omega (arith, live-changed, f .room);
-        each = λ j h.
-            rw more
-            (equal-or-not j i (λ e. subst (λ (n : ℕ). SoundPlace z (b .records + 1) (place-at after n)) (sym e) (f .alone))
-            (λ other. rw (others j h other) (sound-more z (b .records) (b .records + 1) (place-at b j) (omega arith) (s .each j h))));
-        begins-differ = still-apart is-held (λ p. p .begin) (s .begins-differ) (λ j h. s .each j h .begin-counted) (f .begin);
-        commits-differ = still-apart is-committed (λ p. p .commit) (s .commits-differ) (λ j h. s .each j h .commit-counted) (f .commit);
-      }
 
 -- ---- each change of a place
 

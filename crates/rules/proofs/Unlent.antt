@@ -1,7 +1,7 @@
 -- What a call is not lent is of no concern to its rule, and stays. Rests on nothing but the rules. Assumes nothing.
 use Prim.Native.Nat.{ℕ}
 use mathlib.Core.Path.{_≡_, refl, sym}
-use mathlib.Core.Bool.{false, false≢true}
+use mathlib.Core.Bool.{Bool, true, false, false≢true}
 use mathlib.Core.List.{List, []}
 use lib.Dec.{eqb}
 use Rattle.basics.proofs.Bools.{split}
@@ -13,7 +13,7 @@ use Rattle.rules.specs.Daylog.{read-conflict-kind, commit-conflict-kind}
 use Rattle.rules.specs.State.{State, Outcome, state-of, refused, unless-refused, recorded}
 use Rattle.rules.specs.Steps.{turned-back, own-read-of, granted-read-of, judged-read-of, granted-commit-of, judged-commit-of, open-rule, begin-rule, write-rule, read-rule, show-rule, commit-rule, give-up-rule, post-rule, order-rule, close-rule, begin-of, write-of, read-of, show-of, give-up-of, post-of, order-of, close-of}
 use Rattle.rules.specs.Calls.{Call, Open, Begin, Write, Read, Show, Commit, GiveUp, Post, Order, Close, Lending, issued}
-use Rattle.rules.specs.Kept.{gives-order, AsLent, NeitherLent, Unlent}
+use Rattle.rules.specs.Kept.{AsLent, NeitherLent, Unlent}
 use Rattle.rules.proofs.EachCall.{refused-or, one-of}
 use Rattle.rules.proofs.Reasons.{either-weighed}
 
@@ -95,6 +95,19 @@ unlent =
     }
 
 -- ---- orders
+
+-- order is the one call that gives an order
+abbrev pub gives-order : Call → Bool
+gives-order Open = false
+gives-order Begin = false
+gives-order (Write h c value) = false
+gives-order (Read h c) = false
+gives-order (Show given h c) = false
+gives-order (Commit h) = false
+gives-order (GiveUp h) = false
+gives-order (Post c value) = false
+gives-order (Order h) = true
+gives-order Close = false
 
 -- an outcome without an order
 abbrev Orderless : Outcome → Type 0

@@ -8,18 +8,19 @@ use mathlib.Core.Bool.{true, false}
 use mathlib.Core.List.{List, map}
 use Rattle.basics.specs.Lists.{member, keeps}
 use Rattle.basics.specs.Walk.{Cycle}
-use Rattle.basics.proofs.Bools.{clash, or-right}
+use Rattle.basics.proofs.Bools.{clash}
 use Rattle.basics.proofs.Lists.{keeps-cong}
 use Rattle.basics.proofs.Renamed.{names-of, names-at, names-distinct, names-keep}
 use Rattle.basics.proofs.Walk.{first-step, names-walk, named-walk}
 use Rattle.rules.specs.declared.Record.{Record}
 use Rattle.rules.specs.Sizes.{Size}
-use Rattle.rules.specs.Books.{Books, place-at, is-live, is-committed, is-held}
+use Rattle.rules.specs.Books.{Books, place-at, is-held}
 use Rattle.rules.specs.Judging.{company, stands-before, Pair, HasCycle, has-cycle, given-places, given-order}
 use Rattle.rules.specs.Day.{events, company-of, day-before}
 use Rattle.rules.specs.Checker.{lists-company}
 use Rattle.rules.specs.Runs.{DayPair}
 use Rattle.rules.proofs.Mirror.{Mirrored}
+use Rattle.rules.proofs.CommittedHeld.{HeldWith, committed-placed}
 use Rattle.rules.proofs.CompanyListed.{company-says, company-listed}
 use Rattle.rules.proofs.Judging.{company-held, given-orders}
 use Rattle.rules.proofs.PairsMirrored.{pairs-mirrored, company-mirrored}
@@ -29,10 +30,6 @@ module _ (z : Size) (b : Books) (day : List Record) (mirror : Mirrored z b day) 
   abbrev begin-of : ℕ → ℕ
   begin-of k = place-at b k .begin
 
-  -- a place that is held with the transaction
-  abbrev HeldWith : ℕ → ℕ → Type 0
-  HeldWith k t = (k < z .places) × (is-held (place-at b k) ≡ true) × (begin-of k ≡ t)
-
   module _ (i : ℕ) (there : i < z .places) (held : is-held (place-at b i) ≡ true) where
     -- ---- who is in the company
 
@@ -41,16 +38,13 @@ module _ (z : Size) (b : Books) (day : List Record) (mirror : Mirrored z b day) 
     company-told k h c = sym (company-mirrored z b day mirror i k there h held (company-held z b i held k c)) ∙ c
 
     -- everybody in the company of the day has a place
-    company-placed : (t : ℕ) → company-of (events day) (begin-of i) t ≡ true → (k : ℕ) × HeldWith k t
+    company-placed : (t : ℕ) → company-of (events day) (begin-of i) t ≡ true → (k : ℕ) × HeldWith z b k t
     company-placed t c =
-        ⊎-elim (λ same. (i, (there, held, sym same)))
-        (λ other.
-        let k = mirror .kept t (other .0) in
-        (k .at, (k .there, or-right (is-live (place-at b (k .at))) (is-committed (place-at b (k .at))) (k .done), k .named)))
+        ⊎-elim (λ same. (i, (there, held, sym same))) (λ other. committed-placed z b day (mirror .kept) t (other .0))
         (company-says (events day) (begin-of i) t .0 c .1)
 
     -- that is in the company on the books
-    placed-company : (k t : ℕ) → HeldWith k t → company-of (events day) (begin-of i) t ≡ true → company z b i k ≡ true
+    placed-company : (k t : ℕ) → HeldWith z b k t → company-of (events day) (begin-of i) t ≡ true → company z b i k ≡ true
     placed-company k t h c =
         company-mirrored z b day mirror i k there (h .0) held (h .1) ∙ ap (company-of (events day) (begin-of i)) (h .2) ∙ c
 
@@ -64,7 +58,7 @@ module _ (z : Size) (b : Books) (day : List Record) (mirror : Mirrored z b day) 
       sym (pairs-mirrored z b day mirror k m (p .0) (p .1) (company-held z b i held k (p .2)) (company-held z b i held m (p .3))) ∙ p .4,
     )
 
-    placed-pair : (t u k m : ℕ) → DayPair z (events day) (begin-of i) t u → HeldWith k t → HeldWith m u → Pair z b i k m
+    placed-pair : (t u k m : ℕ) → DayPair z (events day) (begin-of i) t u → HeldWith z b k t → HeldWith z b m u → Pair z b i k m
     placed-pair t u k m p hk hm = (
       hk .0,
       hm .0,
@@ -79,7 +73,7 @@ module _ (z : Size) (b : Books) (day : List Record) (mirror : Mirrored z b day) 
       λ c. (begin-of (c .0), names-walk begin-of pair-told (c .1)),
       λ c.
           let k = company-placed (c .0) (first-step (c .1) .1 .0) in
-          (k .0, named-walk HeldWith (λ t u p. company-placed u (p .1)) placed-pair (c .1) (k .1) (k .1)),
+          (k .0, named-walk (HeldWith z b) (λ t u p. company-placed u (p .1)) placed-pair (c .1) (k .1) (k .1)),
     )
 
     -- ---- the order

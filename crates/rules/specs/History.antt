@@ -17,7 +17,6 @@ use Rattle.rules.specs.Daylog.{judged-read-kind, commit-kind, read-confl
 use Rattle.rules.specs.Layout.{walks}
 use Rattle.rules.specs.Day.{Event, events, is-transaction, wrote-cell, written-value, company-of}
 use Rattle.rules.specs.Checker.{accepted}
-use Rattle.rules.specs.Run.{Machine}
 use Rattle.rules.specs.Runs.{AfterRuns}
 
 -- ---- histories

@@ -33,11 +33,11 @@ unfoldable pub write-write : Size → Place → Place → Bool
 write-write z k m =
     is-committed k && (is-committed m && (ltb (k .commit) (m .commit) && anyBelow (λ c. wrote k c && wrote m c) (z .cells)))
 
--- write then read: K committed a cell before a judged read of it by M
+-- write then read: K committed a cell before a judged read of it by M, which is so of some read exactly if it is of the last
 unfoldable pub write-read : Size → Place → Place → Bool
 write-read z k m = is-committed k && anyBelow (λ c. wrote k c && ltb (k .commit) (last-read m c)) (z .cells)
 
--- read then write: K made a judged read of a cell before M committed that cell
+-- read then write: K made a judged read of a cell before M committed that cell, which is so of some read exactly if it is of the first
 unfoldable pub read-write : Size → Place → Place → Bool
 read-write z k m =
     is-committed m && anyBelow (λ c. wrote m c && (leb 1 (first-read k c) && ltb (first-read k c) (m .commit))) (z .cells)
@@ -60,7 +60,7 @@ Pair z b i = LeftPair (z .places) (stands-before z b) (company z b i)
 abbrev pub HasCycle : Size → Books → ℕ → Type 0
 HasCycle z b i = Cycle (Pair z b i)
 
--- the same as a test: elimination does not give everybody
+-- the same as a test: elimination does not give everybody; that this says "cycle" is the theorem `given-orders` (`cycle-told`)
 unfoldable pub has-cycle : Size → Books → ℕ → Bool
 has-cycle z b i = not (givesAll (z .places) (stands-before z b) (λ k. place-at b k .begin) (company z b i))
 

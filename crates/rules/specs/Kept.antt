@@ -1,7 +1,7 @@
 -- What is proved of calls one after the other: what is known when no reason applies, and what every call keeps. The types of the theorems.
 use mathlib.Core.Path.{_≡_}
 use Prim.Native.Nat.{ℕ, _+_, _*_, _≤_, _<_}
-use mathlib.Core.Bool.{Bool, true, false}
+use mathlib.Core.Bool.{true, false}
 use mathlib.Core.List.{List, [], List·Memᴰ}
 use lib.ListN.{length}
 use Rattle.basics.specs.Bytes.{part}
@@ -13,7 +13,7 @@ use Rattle.rules.specs.Sound.{sound, Sound}
 use Rattle.rules.specs.Judging.{has-cycle}
 use Rattle.rules.specs.Numbers.{granted, first-reason}
 use Rattle.rules.specs.State.{State, log-after, adds, shown-bytes, Outcome, state-of}
-use Rattle.rules.specs.Calls.{Call, Open, Begin, Write, Read, Show, Commit, GiveUp, Post, Order, Close, Lending, issued}
+use Rattle.rules.specs.Calls.{Call, Read, Show, Close, Lending, issued}
 use Rattle.rules.specs.Daylog.{commit-total, day-bytes, standing, day-of}
 use Rattle.rules.specs.Run.{Machine, outcome, new-day, after-call, fresh}
 use Rattle.rules.specs.Steps.{begin-reasons, write-reasons, read-reasons, show-reasons, commit-reasons, give-up-reasons, post-reasons, order-reasons, close-reasons, open-rule, begin-rule, write-rule, read-rule, show-rule, commit-rule, give-up-rule, post-rule, order-rule, close-rule}
@@ -156,19 +156,6 @@ pub record NeitherLent (s : State) (o narrow : Outcome) : Type 0 where
   pub agrees : AsLent o narrow
   pub table : TableStays s o
   pub drafts : DraftsStay s o
-
--- order is the one call that gives an order
-abbrev pub gives-order : Call → Bool
-gives-order Open = false
-gives-order Begin = false
-gives-order (Write h c value) = false
-gives-order (Read h c) = false
-gives-order (Show given h c) = false
-gives-order (Commit h) = false
-gives-order (GiveUp h) = false
-gives-order (Post c value) = false
-gives-order (Order h) = true
-gives-order Close = false
 
 -- what a call is not lent is of no concern to its rule, and stays
 pub record Unlent : Type 0 where

@@ -32,12 +32,12 @@ transaction-line es e =
     ++ (text " "
     ++ (standing-word (stands es (e .number)) ++ (text " moment " ++ (decimal (moment-of es (e .number)) ++ text "\n"))))))
 
--- by begin record: a line for each event that starts a transaction, the oldest first
-unfoldable pub transaction-lines : List Event → List Event → List ℕ
-transaction-lines es [] = []
-transaction-lines es (e ∷ earlier) =
-    let line = transaction-line es e in
-    transaction-lines es earlier ++ cond (kind-starts (e .kind)) line []
+-- by begin record: a line for each of the events to be listed that starts a transaction, the oldest first; how it stands is told by all of the day
+unfoldable pub transaction-lines : (all to-list : List Event) → List ℕ
+transaction-lines all [] = []
+transaction-lines all (e ∷ earlier) =
+    let line = transaction-line all e in
+    transaction-lines all earlier ++ cond (kind-starts (e .kind)) line []
 
 -- the report of a well laid out log
 unfoldable pub log-report : List ℕ → List ℕ

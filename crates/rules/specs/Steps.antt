@@ -60,7 +60,7 @@ turned-back s kind i c =
     let p = place-at (s .books) i in
     recorded conflict 0 (with-books s (with-place (s .books) i (freed p))) (record-at kind i p c no-value)
 
--- Conflict exactly if the pairs contain a cycle
+-- Conflict exactly if the pairs contain a cycle; that the test says so is the theorem `given-orders` (`cycle-told`)
 unfoldable pub meets-conflict : Size → Books → ℕ → Bool
 meets-conflict z b i = has-cycle z b i
 

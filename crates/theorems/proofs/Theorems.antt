@@ -11,6 +11,7 @@ use native.Mathlib.Omega.{arith}
 use borrow.Author.Tests.{le-leb, eq-eqb}
 use Rattle.basics.specs.Bytes.{part}
 use Rattle.basics.proofs.Bools.{cond-passes}
+use Rattle.basics.proofs.Bytes.{zeros-are-bytes}
 use Rattle.rules.specs.declared.Record.{Record}
 use Rattle.rules.specs.Sizes.{yard, order-numbers, record-bytes}
 use Rattle.rules.specs.Numbers.{granted, lent, first-reason}
@@ -24,7 +25,6 @@ use Rattle.rules.proofs.Shape.{yard-within}
 use Rattle.rules.proofs.Joined.{log-joins-day}
 use Rattle.rules.proofs.Daylog.{length-day-of, records-in-standing}
 use Rattle.rules.proofs.Holders.{handle-names}
-use Rattle.rules.proofs.DayGrows.{zeros-are-bytes}
 use Rattle.rules.proofs.NewDays.{close-starts}
 use Rattle.rules.proofs.Told.{stands-right}
 use Rattle.rules.proofs.Runs.{orders-given, conflict-at-read, conflict-at-commit}
