@@ -27,6 +27,7 @@ pub mod Holders
 pub mod InTime
 pub mod InTurn
 pub mod Joined
+pub mod JudgedStep
 pub mod Judging
 pub mod LaidOut
 pub mod LastWrites
@@ -53,6 +54,7 @@ pub mod Shape
 pub mod Shown
 pub mod Sound
 pub mod SoundAfter
+pub mod SoundCalls
 pub mod SoundKept
 pub mod TakenApart
 pub mod Theorems
