@@ -5,7 +5,6 @@ use mathlib.Core.Logic.{_≢_, _⊎_, inl, inr, ⊎-elim}
 use Prim.Native.Nat.{ℕ}
 use mathlib.Core.Bool.{Bool, true}
 use mathlib.Core.List.{List}
-use native.Mathlib.Omega.{arith}
 use Rattle.basics.proofs.Bools.{split, equal-or-not}
 use Rattle.rules.specs.Sizes.{Size}
 use Rattle.rules.specs.Handles.{place-of}
@@ -15,13 +14,9 @@ use Rattle.rules.specs.State.{State, Outcome, refused, unless-refused, r
 use Rattle.rules.specs.Steps.{Judged, books-granted, granted-of, turned-back, meets-conflict, judged-of, open-rule, begin-of, write-of, own-read-of, show-of, give-up-of, post-of, order-of, close-of, read-rule, read-of, commit-rule}
 use Rattle.rules.specs.Calls.{Call, Lending, issued, reasons-of, handed-on, owns, IsJudged, read-judged, commit-judged}
 use Rattle.rules.specs.Statements.{TurnsBack, JudgedConflict, Conflicts}
-use Rattle.rules.proofs.EachCall.{no-nine, EachOutcome, each-call}
+use Rattle.rules.proofs.EachCall.{never-nine, no-nine, EachOutcome, each-call}
 use Rattle.rules.proofs.Judging.{given-orders}
 use Rattle.rules.proofs.Reasons.{refused-or-not}
-
--- 0 is not 9
-never : granted ≢ conflict
-never e = omega arith
 
 -- ---- the judged calls
 
@@ -33,8 +28,8 @@ judged-rule z l s (read-judged h c other) = rw other refl
 judged-rule z l s (commit-judged h) = refl
 
 pub hands-nothing : {z : Size} {own : ℕ → ℕ → Bool} {s : State} {c : Call} {h : ℕ} {j : Judged} → IsJudged z own s c h j → handed-on c ≢ conflict
-hands-nothing (read-judged h c other) = never
-hands-nothing (commit-judged h) = never
+hands-nothing (read-judged h c other) = never-nine
+hands-nothing (commit-judged h) = never-nine
 
 -- what being turned back means
 turned-back-turns : (s : State) (kind i c : ℕ) (o : Outcome) → o ≡ turned-back s kind i c → TurnsBack s kind i c o
@@ -58,7 +53,7 @@ module _ (z : Size) (s : State) (i : ℕ) (j : Judged) where
   -- weighed, it meets Conflict only if the test finds a cycle
   weighed-conflict : judged-of z s i j .number ≡ conflict → (cycle ≡ true) × (judged-of z s i j ≡ turned-back s (j .back) i (j .cell))
   unfolding judged-of meets-conflict granted-of recorded
-  weighed-conflict = split cycle (λ e. rw e (λ h. (refl, refl))) (λ e. rw e (λ h. absurd (never h)))
+  weighed-conflict = split cycle (λ e. rw e (λ h. (refl, refl))) (λ e. rw e (λ h. absurd (never-nine h)))
 
   module _ (reasons : List Reason) (other : first-reason reasons ≢ conflict) where
     -- behind reasons that have not its number, only if nothing refuses it
@@ -106,17 +101,17 @@ module _ (z : Size) (l : Lending) (s : State) where
   no-other =
       record {
         on-refused = λ c n k other e. equal-or-not (handed-on c) conflict inr (λ q. absurd (other q e));
-        on-open = λ e. absurd (never e);
-        on-begin = λ asked e. absurd (never e);
-        on-write = λ h c value asked e. absurd (never e);
-        on-own-read = λ h c asked own e. absurd (never e);
+        on-open = λ e. absurd (never-nine e);
+        on-begin = λ asked e. absurd (never-nine e);
+        on-write = λ h c value asked e. absurd (never-nine e);
+        on-own-read = λ h c asked own e. absurd (never-nine e);
         on-judged = λ {c} {h} {j} judged asked free e. inl (h, j, judged);
         on-turned-back = λ {c} {h} {j} judged asked cycle e. inl (h, j, judged);
-        on-show = λ given h c asked e. absurd (never e);
-        on-give-up = λ h asked e. absurd (never e);
-        on-post = λ c value asked e. absurd (never e);
-        on-order = λ h asked e. absurd (never e);
-        on-close = λ asked e. absurd (never e);
+        on-show = λ given h c asked e. absurd (never-nine e);
+        on-give-up = λ h asked e. absurd (never-nine e);
+        on-post = λ c value asked e. absurd (never-nine e);
+        on-order = λ h asked e. absurd (never-nine e);
+        on-close = λ asked e. absurd (never-nine e);
       }
 
 pub conflicts : Conflicts

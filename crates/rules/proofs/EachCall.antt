@@ -7,6 +7,7 @@ use mathlib.Core.Bool.{Bool, true, false, not, cond}
 use mathlib.Core.List.{List}
 use lib.ListN.{length}
 use lib.Dec.{eqb}
+use native.Mathlib.Omega.{arith}
 use borrow.Author.Tests.{eqb-false, ne-eqb, not-true}
 use Rattle.basics.specs.Lists.{allIn}
 use Rattle.rules.specs.Sizes.{Size}
@@ -21,6 +22,10 @@ use Rattle.rules.proofs.Asked.{begin-asked, write-asked, read-asked, sh
 use Rattle.rules.proofs.Reasons.{first-among, refused-or-not}
 
 -- ---- one rule
+
+-- 0 is not 9
+pub never-nine : granted ≢ conflict
+never-nine e = omega arith
 
 -- no reason to refuse a call has the number of Conflict, but that which a show hands on
 none-nine : (z : Size) (l : Lending) (s : State) (c : Call) → handed-on c ≢ conflict → allIn (λ r. not (eqb (r .number) conflict)) (reasons-of z l c s) ≡ true

@@ -6,7 +6,6 @@ use mathlib.Core.Path.{_≡_, sym, _∙_, ap}
 use mathlib.Core.Logic.{_↔_, _≢_, ⊎-elim}
 use mathlib.Core.Bool.{true}
 use mathlib.Core.List.{List}
-use native.Mathlib.Omega.{arith}
 use Rattle.rules.specs.Sizes.{Size}
 use Rattle.rules.specs.Books.{Books, place-at, is-held, held-status, wrote}
 use Rattle.rules.specs.Handles.{place-of}
@@ -19,12 +18,12 @@ use Rattle.rules.specs.Kept.{LiveCaller}
 use Rattle.rules.specs.Run.{Machine, lends, outcome}
 use Rattle.rules.specs.Runs.{record-of, reads-own, holder, MeetsNone}
 use Rattle.rules.proofs.Conflict.{hands-nothing, judged-rule, conflicts}
-use Rattle.rules.proofs.EachCall.{no-nine, AskedOf, asked-of}
+use Rattle.rules.proofs.EachCall.{never-nine, no-nine, AskedOf, asked-of}
 use Rattle.rules.proofs.Mirror.{Mirrored, Holds}
 use Rattle.rules.proofs.Reasons.{refused-or-not}
 
 -- nothing refuses a call that meets none of 1 to 8, if its reasons cannot give the number of Conflict
-none-refuses : (reasons : List Reason) (s : State) (o : Outcome) → first-reason reasons ≢ conflict → MeetsNone (unless-refused reasons s o)
+none-refuses : (reasons : List Reason) (s : State) (o : Outcome) → first-reason reasons ≢ conflict → MeetsNone (unless-refused reasons s o .number)
     → first-reason reasons ≡ granted
 unfolding refused
 none-refuses reasons s o other meets =
@@ -42,7 +41,7 @@ module _ (z : Size) (m : Machine) where
 
   -- ---- a judged call that meets none of 1 to 8
 
-  module _ {c : Call} {h : ℕ} {j : Judged} (judged : IsJudged z (owns (m .state .books)) (m .state) c h j) (meets : MeetsNone (outcome z c m)) where
+  module _ {c : Call} {h : ℕ} {j : Judged} (judged : IsJudged z (owns (m .state .books)) (m .state) c h j) (meets : MeetsNone (outcome z c m .number)) where
     -- nothing refuses it
     unrefused : first-reason (reasons-of z (lends z m) c s) ≡ granted
     unfolding outcome
@@ -60,10 +59,10 @@ module _ (z : Size) (m : Machine) where
         (λ e. exactly .0 e .1, λ cycle. exactly .1 (unrefused, cycle))
 
   -- of any read all that is asked is known
-  read-met : (h c : ℕ) → MeetsNone (outcome z (Read h c) m) → AskedOf z (lends z m) s (Read h c)
+  read-met : (h c : ℕ) → MeetsNone (outcome z (Read h c) m .number) → AskedOf z (lends z m) s (Read h c)
   unfolding outcome issued read-rule reasons-of
   read-met h c meets =
-      asked-of z (lends z m) s (Read h c) (none-refuses _ s _ (no-nine z (lends z m) s (Read h c) (λ e. omega arith)) meets)
+      asked-of z (lends z m) s (Read h c) (none-refuses _ s _ (no-nine z (lends z m) s (Read h c) never-nine) meets)
 
   -- ---- by the day
 
@@ -86,7 +85,7 @@ module _ (z : Size) (m : Machine) where
     reads-own-is h c caller cell = held-there h (caller .place) (ap held-status (caller .live)) .cells c cell
 
     -- a call that is judged by the log is judged by the books
-    pub judged-told : {c : Call} {h : ℕ} {j : Judged} → IsJudged z (reads-own (m .day)) (m .state) c h j → MeetsNone (outcome z c m)
+    pub judged-told : {c : Call} {h : ℕ} {j : Judged} → IsJudged z (reads-own (m .day)) (m .state) c h j → MeetsNone (outcome z c m .number)
         → IsJudged z (owns (m .state .books)) (m .state) c h j
     judged-told (read-judged h c other) meets =
         let asked = read-met h c meets in

@@ -10,7 +10,7 @@ use native.Mathlib.Omega.{arith}
 use borrow.Author.Tests.{ltb-true, lt-ltb}
 use Rattle.basics.specs.Bytes.{same}
 use Rattle.rules.specs.Sizes.{Size, Within, cell-bytes, width}
-use Rattle.rules.specs.Books.{Shaped, place-at, held-status, is-held, read-marked, sealed}
+use Rattle.rules.specs.Books.{Books, Shaped, place-at, held-status, is-held, read-marked, sealed}
 use Rattle.rules.specs.Handles.{place-of}
 use Rattle.rules.specs.Daylog.{lowest-kind, highest-kind, give-up-kind, read-conflict-kind, commit-conflict-kind, kind-starts, kind-commits, kind-conflict, kind-frees, kind-writes, kind-judged-read, kind-own-read, kind-judged, kind-has-cell, kind-has-value, granted-kind, no-value}
 use Rattle.rules.specs.State.{State}
@@ -80,11 +80,11 @@ pub record JudgedStep (z : Size) (s : State) (h : ℕ) (j : Judged) : Type 0 whe
   pub back-cell-right : cond (kind-has-cell (j .back)) (ltb (j .cell) (z .cells)) (eqb (j .cell) 0) ≡ true
   pub small : Within z → j .cell < width
 
-module _ (z : Size) (l : Lending) (s : State) where
-  -- the place of a handle is in the arrays
-  wide-caller : (h : ℕ) → Shaped (s .books) → Wide (place-at (s .books) (place-of h))
-  wide-caller h shape = shaped-wide (place-of h) shape (place-of-below h)
+-- the place of a handle is in the arrays
+pub wide-caller : {b : Books} (h : ℕ) → Shaped b → Wide (place-at b (place-of h))
+wide-caller h shape = shaped-wide (place-of h) shape (place-of-below h)
 
+module _ (z : Size) (l : Lending) (s : State) where
   -- each of the judged calls
   pub judged-step : {c : Call} {h : ℕ} {j : Judged} → IsJudged z (owns (s .books)) s c h j → AskedOf z l s c → JudgedStep z s h j
   unfolding read-marked sealed kind-starts kind-frees kind-has-cell kind-has-value granted-kind same

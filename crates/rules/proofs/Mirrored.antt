@@ -32,9 +32,8 @@ use Rattle.rules.specs.Runs.{DayStarts}
 use Rattle.rules.proofs.Mirror.{Holds, Mirrors, Mirrored}
 use Rattle.rules.proofs.Asked.{lowest-is-free}
 use Rattle.rules.proofs.EachCall.{AskedOf, EachOutcome, each-call}
-use Rattle.rules.proofs.Handles.{place-of-below}
-use Rattle.rules.proofs.JudgedStep.{allowed, frees-only, judged-step}
-use Rattle.rules.proofs.Shape.{Wide, wide-freed, place-at-same, place-at-other, place-at-opened, place-at-closed, shaped-wide, shaped-opened, shaped-closed, shaped-with-place}
+use Rattle.rules.proofs.JudgedStep.{allowed, frees-only, wide-caller, judged-step}
+use Rattle.rules.proofs.Shape.{wide-freed, place-at-same, place-at-other, place-at-opened, place-at-closed, shaped-opened, shaped-closed, shaped-with-place}
 use Rattle.rules.proofs.Sound.{sound-says}
 use Rattle.rules.proofs.SoundKept.{sound-opened, sound-closed}
 use Rattle.rules.proofs.SoundCalls.{shape-judged, shape-each, sound-judged, sound-each}
@@ -139,15 +138,12 @@ module _ (z : Size) (l : Lending) (m : Machine) (w : Within z) (mirror : Mirrore
     abbrev p : Place
     p = place-at b i
 
-    -- it mirrors its seat, is held and wide
+    -- it mirrors its seat, and is held
     here : Mirrors z day i p
     here = mirror .places i (caller .place)
 
     held : Holds z day i p
     held = here .holds (rw (caller .live))
-
-    wide : Wide p
-    wide = shaped-wide i (mirror .shape) (place-of-below h)
 
     -- a record that starts nothing, and what it asks of its cell
     caller-fits : (kind c : ℕ) (value : List ℕ) → kind-starts kind ≡ false → (eqb kind own-read-kind ≡ true → (c < z .cells) × (wrote p c ≡ true))
@@ -185,7 +181,7 @@ module _ (z : Size) (l : Lending) (m : Machine) (w : Within z) (mirror : Mirrore
         known = refl;
         fit = λ value. caller-fits h caller judged-read-kind c value refl never (λ e. (asked .cell, other));
         mirrors = λ value.
-            mirrors-read z day (place-of h) _ (number-of b) number (here h caller) (caller .live) c value (omega (arith, w .cells, asked .cell)) (wide h caller);
+            mirrors-read z day (place-of h) _ (number-of b) number (here h caller) (caller .live) c value (omega (arith, w .cells, asked .cell)) (wide-caller h (mirror .shape));
         back-fit = caller-fits h caller read-conflict-kind c no-value refl never (λ e. (asked .cell, other));
       }
   records-fit (commit-judged h) asked =
@@ -253,7 +249,7 @@ module _ (z : Size) (l : Lending) (m : Machine) (w : Within z) (mirror : Mirrore
       let i = place-of h in
       let p = place-at b i in
       let r = record-at write-kind i p c value in
-      let inside : c < length (p .written) = omega (arith, w .cells, asked .cell, wide h caller .written) in
+      let inside : c < length (p .written) = omega (arith, w .cells, asked .cell, wide-caller h (mirror .shape) .written) in
       changed r (marked p c) (caller .place) (right z r refl (caller .place) (lt-ltb c (z .cells) (asked .cell)) refl)
       (caller-fits h caller write-kind c value refl never never)
       (mirrors-marked z day i p (number-of b) number (here h caller) (caller .live) c value inside) (shapes .on-write h c value asked)

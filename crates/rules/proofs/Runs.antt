@@ -145,7 +145,7 @@ module _ (z : Size) (m : Machine) (w : Within z) (kept : Kept z m) where
 
 -- a judged call weighed with the record that it would add: the machine n is the one that it would leave
 module _ (z : Size) (i : ℕ) (o : Outcome) (n : Machine) (mirror : Mirrored z (n .state .books) (n .day)) (valued : Valued z n) (there : i < z .places)
-    (held : is-held (place-at (n .state .books) i) ≡ true) (meets : MeetsNone o) (verdict : (o .number ≡ conflict) ↔ HasCycle z (n .state .books) i) where
+    (held : is-held (place-at (n .state .books) i) ≡ true) (meets : MeetsNone (o .number)) (verdict : (o .number ≡ conflict) ↔ HasCycle z (n .state .books) i) where
   -- the transaction
   abbrev who : ℕ
   who = place-at (n .state .books) i .begin
@@ -172,7 +172,7 @@ module _ (z : Size) (m : Machine) (w : Within z) (kept : Kept z m) where
   -- told of the log with the record: the record is that of a granted call, and the transaction the one at the handle's place
   exactly : (h : ℕ) (r : Record) (o : Outcome) (n : Machine) → n .day ≡ r ∷ m .day → n .opening ≡ m .opening → Mirrored z (n .state .books) (n .day) → Valued z n
       → place-of h < z .places → is-held (place-at (n .state .books) (place-of h)) ≡ true → holder (m .day) h ≡ place-at (n .state .books) (place-of h) .begin
-      → MeetsNone o → (o .number ≡ conflict) ↔ HasCycle z (n .state .books) (place-of h) → ConflictExactly z m h r o
+      → MeetsNone (o .number) → (o .number ≡ conflict) ↔ HasCycle z (n .state .books) (place-of h) → ConflictExactly z m h r o
   exactly h r o n day opening mirror valued there held named meets verdict =
       record {
         by-cycle = rw (← day, named) (weighed-cycle z (place-of h) o n mirror valued there held meets verdict);

@@ -12,9 +12,8 @@ use Rattle.rules.specs.Calls.{Call, Lending, issued}
 use Rattle.rules.specs.Kept.{LiveCaller, SoundnessKept}
 use Rattle.rules.proofs.Asked.{lowest-is-free}
 use Rattle.rules.proofs.EachCall.{EachOutcome, each-call}
-use Rattle.rules.proofs.Handles.{place-of-below}
-use Rattle.rules.proofs.JudgedStep.{JudgedStep, judged-step}
-use Rattle.rules.proofs.Shape.{Wide, wide-freed, wide-begun, wide-posted, wide-marked, shaped-wide, shaped-opened, shaped-closed, shaped-with-record, shaped-with-place}
+use Rattle.rules.proofs.JudgedStep.{wide-caller, JudgedStep, judged-step}
+use Rattle.rules.proofs.Shape.{wide-freed, wide-begun, wide-posted, wide-marked, shaped-opened, shaped-closed, shaped-with-record, shaped-with-place}
 use Rattle.rules.proofs.Sound.{sound-says}
 use Rattle.rules.proofs.SoundAfter.{Fits, fits-freed, fits-begun, fits-posted, fits-same, fits-marked, sound-with-place, sound-with-record}
 use Rattle.rules.proofs.SoundKept.{sound-opened, sound-closed}
@@ -22,10 +21,6 @@ use Rattle.rules.proofs.SoundKept.{sound-opened, sound-closed}
 module _ (z : Size) (l : Lending) (s : State) (shape : Shaped (s .books)) where
   abbrev b : Books
   b = s .books
-
-  -- the place of a handle is in the arrays
-  wide : (h : ℕ) → Wide (place-at b (place-of h))
-  wide h = shaped-wide (place-of h) shape (place-of-below h)
 
   -- a judged call, were it granted, leaves the books in shape
   pub shape-judged : {h : ℕ} {j : Judged} → JudgedStep z s h j → Shaped (books-granted (s .books) (place-of h) j)
@@ -40,7 +35,7 @@ module _ (z : Size) (l : Lending) (s : State) (shape : Shaped (s .books)) where
         on-refused = λ c n k j. shape;
         on-open = shaped-opened;
         on-begin = λ asked. shaped-with-place _ (wide-begun _ _) shape;
-        on-write = λ h c value asked. shaped-with-place _ (wide-marked c (wide h)) shape;
+        on-write = λ h c value asked. shaped-with-place _ (wide-marked c (wide-caller h shape)) shape;
         on-own-read = λ h c asked own. shaped-with-record shape;
         on-judged = λ judged asked free. shape-judged (judged-step z l s judged asked);
         on-turned-back = λ judged asked cycle. shaped-with-place _ (wide-freed _) shape;

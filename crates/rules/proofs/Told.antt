@@ -21,7 +21,7 @@ use Rattle.rules.specs.Layout.{well-laid-out}
 use Rattle.rules.specs.Run.{Machine, lends, outcome, new-day, moved-on, after-call, played}
 use Rattle.rules.specs.Runs.{ran, record-of, read-kind, told, shown-on, shown-behind, told-call, told-run}
 use Rattle.rules.proofs.Daylog.{records-in-standing, day-of-standing}
-use Rattle.rules.proofs.EachCall.{AskedOf, EachOutcome, refused-or, each-call}
+use Rattle.rules.proofs.EachCall.{never-nine, AskedOf, EachOutcome, refused-or, each-call}
 use Rattle.rules.proofs.Handled.{record-of-live, reads-own-is}
 use Rattle.rules.proofs.Handles.{place-of-handle-of, turn-of-handle-of}
 use Rattle.rules.proofs.Joined.{records-counted}
@@ -73,19 +73,15 @@ module _ (z : Size) (m : Machine) (w : Within z) (mirror : Mirrored z (m .state 
   unfolding refused outcome issued open-rule
   open-granted n e = ap (λ (o : Outcome). o .number) e
 
-  -- a call that hands nothing on
-  hands-nothing : granted ≢ conflict
-  hands-nothing e = omega arith
-
   -- a refusal other than 9 tells nothing
   tells-refused : (c : Call) (n : ℕ) → n ≢ granted → (handed-on c ≢ conflict → n ≢ conflict) → TellsOwn c (refused n s)
   unfolding told after-call moved-on refused
   tells-refused Open n k j e = absurd (k (open-granted n e))
   tells-refused Begin n k j e = rw (ne-eqb n granted k)
   tells-refused (Write h c value) n k j e = rw (ne-eqb n granted k)
-  tells-refused (Read h c) n k j e = rw (ne-eqb n granted k, ne-eqb n conflict (j hands-nothing))
+  tells-refused (Read h c) n k j e = rw (ne-eqb n granted k, ne-eqb n conflict (j never-nine))
   tells-refused (Show given h c) n k j e = refl
-  tells-refused (Commit h) n k j e = rw (ne-eqb n granted k, ne-eqb n conflict (j hands-nothing))
+  tells-refused (Commit h) n k j e = rw (ne-eqb n granted k, ne-eqb n conflict (j never-nine))
   tells-refused (GiveUp h) n k j e = rw (ne-eqb n granted k)
   tells-refused (Post c value) n k j e = rw (ne-eqb n granted k)
   tells-refused (Order h) n k j e = refl

@@ -193,9 +193,9 @@ DayPair z es t k m = (company-of es t k ≡ true) × (company-of es t m ≡ true
 abbrev pub record-granted : ℕ → Judged → Record
 record-granted h j = record-of (j .kind) h (j .cell) (j .value)
 
--- a call meets none of 1 to 8
-abbrev pub MeetsNone : Outcome → Type 0
-MeetsNone o = (o .number ≡ granted) ⊎ (o .number ≡ conflict)
+-- a call that gives back this number meets none of 1 to 8
+abbrev pub MeetsNone : ℕ → Type 0
+MeetsNone number = (number ≡ granted) ⊎ (number ≡ conflict)
 
 -- the call of a handle meets Conflict exactly when, were it granted with the record r, ..
 pub record ConflictExactly (z : Size) (m : Machine) (h : ℕ) (r : Record) (o : Outcome) : Type 0 where
@@ -208,7 +208,7 @@ pub record ConflictExactly (z : Size) (m : Machine) (h : ℕ) (r : Record) (o : 
 abbrev pub MeetsConflict : Size → Machine → Type 0
 MeetsConflict z m =
     (c : Call) (h : ℕ) (j : Judged) → IsJudged z (reads-own (m .day)) (m .state) c h j → let o = outcome z c m in
-    MeetsNone o → ConflictExactly z m h (record-granted h j) o
+    MeetsNone (o .number) → ConflictExactly z m h (record-granted h j) o
 
 abbrev pub ConflictsMet : Type 0
 ConflictsMet = AfterRuns MeetsConflict
