@@ -6,7 +6,7 @@ ghost use lib.ListN.{length};
 ghost use Rattle.rules.specs.Sizes.{Within, most-records, log-bytes, table-bytes, drafts-bytes};
 ghost use Rattle.rules.specs.Books.{books-of};
 ghost use Rattle.rules.specs.State.{state-of, log-after};
-ghost use Rattle.rules.specs.Steps.{judged-read-of, read-of, granted-commit-of, judged-commit-of};
+ghost use Rattle.rules.specs.Steps.{judged-read-of, read-of, judged-commit-of};
 ghost use Rattle.recording.specs.Stepped.{step-of};
 use cells::cell;
 use cells::lay;

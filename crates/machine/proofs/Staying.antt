@@ -12,7 +12,7 @@ use Rattle.rules.specs.Run.{after-call}
 use Rattle.rules.specs.Kept.{Joined}
 use Rattle.rules.proofs.Shape.{yard-within, shaped-opened}
 use Rattle.rules.proofs.SoundKept.{sound-opened}
-use Rattle.rules.proofs.SoundAfter.{soundness-kept}
+use Rattle.rules.proofs.SoundCalls.{soundness-kept}
 use Rattle.rules.proofs.Joined.{log-joins-day}
 use Rattle.machine.specs.declared.books.Books.{Books}
 use Rattle.machine.specs.declared.books.Answer.{Answer}

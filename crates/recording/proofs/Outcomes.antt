@@ -9,13 +9,13 @@ use Rattle.basics.proofs.Bools.{split}
 use Rattle.rules.specs.declared.Place.{Place}
 use Rattle.rules.specs.declared.Size.{Size}
 use Rattle.rules.specs.Sizes.{width}
-use Rattle.rules.specs.Books.{books-of, closed, of-places, no-place, begun, posted, marked, freed, read-marked, sealed, with-place, with-record, lowest-free, wrote}
+use Rattle.rules.specs.Books.{books-of, closed, of-places, no-place, begun, posted, marked, freed, read-marked, with-place, with-record, lowest-free, wrote}
 use Rattle.rules.specs.Handles.{handle-of}
 use Rattle.rules.specs.Judging.{has-cycle, given-order}
-use Rattle.rules.specs.Cells.{cell-of, with-cell, draft-of, with-draft, laid-over}
-use Rattle.rules.specs.Daylog.{begin-kind, judged-read-kind, own-read-kind, write-kind, commit-kind, give-up-kind, read-conflict-kind, commit-conflict-kind, post-kind, no-value, commit-total, day-of}
+use Rattle.rules.specs.Cells.{with-cell, draft-of, with-draft}
+use Rattle.rules.specs.Daylog.{begin-kind, own-read-kind, write-kind, give-up-kind, post-kind, no-value, commit-total, day-of}
 use Rattle.rules.specs.State.{state-of, adds, closes, log-after, buffer-after, recorded, Outcome}
-use Rattle.rules.specs.Steps.{record-at, turned-back, meets-conflict, weighed, begin-of, write-of, own-read-of, read-books, granted-read-of, judged-read-of, read-of, commit-books, granted-commit-of, judged-commit-of, give-up-of, post-of, order-of, close-of}
+use Rattle.rules.specs.Steps.{record-at, Judged, books-granted, granted-of, turned-back, meets-conflict, judged-of, begin-of, write-of, own-read-of, judged-read-of, read-of, give-up-of, post-of, order-of, close-of}
 use Rattle.rules.proofs.Judging.{cycle-by-places, order-by-places, order-length}
 use Rattle.recording.specs.declared.Step.{Step}
 use Rattle.recording.specs.Stepped.{step-of, changed-step}
@@ -66,44 +66,30 @@ module _ (records : ℕ) (places : List Place) (log : List ℕ) (z : Size) (i c 
   unfolding own-read-of recorded with-record
   own-read-meets drafts value-is log-is = (refl, rw (log-is, value-is))
 
--- a judged call, weighed with itself counted as granted: place i changed to q
-module _ (records : ℕ) (places : List Place) (log : List ℕ) (z : Size) (i : ℕ) (q : Place) {p : Place} {as-granted : Step} {t : Bool} (place : p ≡ q) (granted-is : as-granted ≡ changed-step 0 0 places records i p) (verdict : t ≡ has-cycle z (of-places (as-granted .places)) i) where
+-- a judged call, weighed with itself counted as granted: the step, the table and the log after it
+module _ (records : ℕ) (places : List Place) (log : List ℕ) (z : Size) (i : ℕ) (table drafts : List ℕ) (j : Judged) {p : Place} {as-granted : Step} {t : Bool}
+    (place : p ≡ j .place) (granted-is : as-granted ≡ changed-step 0 0 places records i p) (verdict : t ≡ has-cycle z (of-places (as-granted .places)) i) where
   -- the verdict on the places as they would be is the verdict on the books as they would be
-  verdict-is : has-cycle z (with-place (books-of records places) i q) i ≡ t
-  unfolding with-place
+  verdict-is : has-cycle z (books-granted (books-of records places) i j) i ≡ t
+  unfolding books-granted with-place
   verdict-is =
-      sym (verdict ∙ ap (λ (g : Step). has-cycle z (of-places (g .places)) i) (granted-is ∙ ap (λ (x : Place). changed-step 0 0 places records i x) place) ∙ cycle-by-places z (with-place (books-of records places) i q) i)
+      sym (verdict ∙ ap (λ (g : Step). has-cycle z (of-places (g .places)) i) as-granted-is ∙ cycle-by-places z (with-place (books-of records places) i (j .place)) i)
+    where
+      as-granted-is : as-granted ≡ changed-step 0 0 places records i (j .place)
+      as-granted-is = granted-is ∙ ap (λ (x : Place). changed-step 0 0 places records i x) place
 
-  as-granted-is : as-granted ≡ changed-step 0 0 places records i q
-  as-granted-is = granted-is ∙ ap (λ (x : Place). changed-step 0 0 places records i x) place
+  -- Conflict
+  pub judged-back : {step : Step} {after : List ℕ} → t ≡ true → Meets records (turned-back (state-of (books-of records places) [] []) (j .back) i (j .cell)) step log after
+      → let o = judged-of z (state-of (books-of records places) table drafts) i j in (step ≡ step-of o) × ((table ≡ o .after .table) × (after ≡ log-after records (o .entry) log))
+  unfolding judged-of meets-conflict turned-back recorded
+  judged-back cycle back = rw (verdict-is ∙ cycle) (back .0, (refl, back .1))
 
-module _ (records : ℕ) (places : List Place) (log : List ℕ) (z : Size) (i : ℕ) {p : Place} {as-granted : Step} {t : Bool} where
-  -- a read of a cell that is not written: Conflict, or granted
-  module _ (c : ℕ) (table : List ℕ) (place : p ≡ read-marked (getD places i no-place) c (records + 1)) (granted-is : as-granted ≡ changed-step 0 0 places records i p) (verdict : t ≡ has-cycle z (of-places (as-granted .places)) i) where
-    pub judged-read-back : {step : Step} {after : List ℕ} → t ≡ true → Meets records (turned-back (state-of (books-of records places) [] []) read-conflict-kind i c) step log after
-        → Meets records (judged-read-of z (state-of (books-of records places) table []) i c) step log after
-    unfolding judged-read-of weighed meets-conflict read-books turned-back recorded
-    judged-read-back cycle back = rw (verdict-is records places log z i _ place granted-is verdict ∙ cycle) back
-
-    pub judged-read-on : {value after : List ℕ} → t ≡ false → value ≡ cell-of table c → after ≡ log-after records (adds (record-at judged-read-kind i (getD places i no-place) c value)) log
-        → Meets records (judged-read-of z (state-of (books-of records places) table []) i c) as-granted log after
-    unfolding judged-read-of weighed meets-conflict read-books granted-read-of recorded with-place
-    judged-read-on none value-is log-is =
-        rw (verdict-is records places log z i _ place granted-is verdict ∙ none) (as-granted-is records places log z i _ place granted-is verdict, rw (log-is, value-is))
-
-  -- a commit: Conflict, or granted
-  module _ (table drafts : List ℕ) (place : p ≡ sealed (getD places i no-place) (records + 1)) (granted-is : as-granted ≡ changed-step 0 0 places records i p) (verdict : t ≡ has-cycle z (of-places (as-granted .places)) i) where
-    pub commit-back : {step : Step} {after : List ℕ} → t ≡ true → Meets records (turned-back (state-of (books-of records places) [] []) commit-conflict-kind i 0) step log after
-        → let o = judged-commit-of z (state-of (books-of records places) table drafts) i in (step ≡ step-of o) × ((table ≡ o .after .table) × (after ≡ log-after records (o .entry) log))
-    unfolding judged-commit-of weighed meets-conflict commit-books turned-back recorded
-    commit-back cycle back = rw (verdict-is records places log z i _ place granted-is verdict ∙ cycle) (back .0, (refl, back .1))
-
-    pub commit-on : {laid after : List ℕ} → t ≡ false → laid ≡ laid-over z (wrote (getD places i no-place)) (draft-of z drafts i) table
-        → after ≡ log-after records (adds (record-at commit-kind i (getD places i no-place) 0 no-value)) log
-        → let o = judged-commit-of z (state-of (books-of records places) table drafts) i in (as-granted ≡ step-of o) × ((laid ≡ o .after .table) × (after ≡ log-after records (o .entry) log))
-    unfolding judged-commit-of weighed meets-conflict commit-books granted-commit-of recorded with-place
-    commit-on none laid-is log-is =
-        rw (verdict-is records places log z i _ place granted-is verdict ∙ none) (as-granted-is records places log z i _ place granted-is verdict, (laid-is, log-is))
+  -- granted
+  pub judged-on : {value laid after : List ℕ} → t ≡ false → value ≡ j .value → laid ≡ j .table
+      → after ≡ log-after records (adds (record-at (j .kind) i (getD places i no-place) (j .cell) value)) log
+      → let o = judged-of z (state-of (books-of records places) table drafts) i j in (as-granted ≡ step-of o) × ((laid ≡ o .after .table) × (after ≡ log-after records (o .entry) log))
+  unfolding judged-of meets-conflict books-granted granted-of recorded with-place
+  judged-on none value-is laid-is log-is = rw (verdict-is ∙ none) (rw (granted-is, place), (laid-is, rw (log-is, value-is)))
 
 -- a read, by whether its cell is written
 module _ (records : ℕ) (places : List Place) (log : List ℕ) (z : Size) (i c : ℕ) (table drafts : List ℕ) {step : Step} {after : List ℕ} where
@@ -114,9 +100,9 @@ module _ (records : ℕ) (places : List Place) (log : List ℕ) (z : Size) (i c 
 
   pub read-judged : wrote (getD places i no-place) c ≡ false → Meets records (judged-read-of z (state-of (books-of records places) table []) i c) step log after
       → Meets records (read-of z (state-of (books-of records places) table drafts) i c) step log after
-  unfolding read-of judged-read-of weighed meets-conflict turned-back granted-read-of recorded
+  unfolding read-of judged-of books-granted turned-back granted-of recorded
   read-judged other judged =
-      rw other (split (has-cycle z (read-books z (books-of records places) i c) i) (λ e. rw e (rw e at judged)) (λ e. rw e (rw e at judged)))
+      rw other (split (meets-conflict z (with-place (books-of records places) i (read-marked (getD places i no-place) c (records + 1))) i) (λ e. rw e (rw e at judged)) (λ e. rw e (rw e at judged)))
 
 -- order: the books stay, and the buffer has the order in its first numbers
 module _ (records : ℕ) (places : List Place) (z : Size) (i : ℕ) where

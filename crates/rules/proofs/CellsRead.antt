@@ -14,7 +14,7 @@ use Rattle.rules.specs.Cells.{cell-of, draft-of}
 use Rattle.rules.specs.Daylog.{judged-read-kind, own-read-kind, kind-starts, kind-commits, kind-writes, kind-judged-read, kind-own-read}
 use Rattle.rules.specs.State.{State, recorded}
 use Rattle.rules.specs.Day.{events, written-value}
-use Rattle.rules.specs.Steps.{record-at, number-of, read-books, own-read-of, granted-read-of}
+use Rattle.rules.specs.Steps.{record-at, number-of, books-granted, granted-of, own-read-of, judged-read}
 use Rattle.rules.specs.Calls.{Lending}
 use Rattle.rules.specs.Kept.{ReadAsked}
 use Rattle.rules.specs.Run.{Machine, after-call}
@@ -32,8 +32,8 @@ module _ (z : Size) (l : Lending) (m : Machine) (w : Within z) (mirror : Mirrore
 
   -- a read, were it granted
   pub valued-read : (h c : ℕ) → ReadAsked z (length (m .state .table)) (length (m .state .drafts)) (l .log) (m .state .books) h c
-      → Valued z (after-call m (granted-read-of z (m .state) (place-of h) c))
-  unfolding after-call granted-read-of recorded read-books kind-commits kind-writes kind-judged-read kind-own-read
+      → Valued z (after-call m (granted-of (m .state) (place-of h) (judged-read z (m .state) (place-of h) c)))
+  unfolding after-call granted-of recorded books-granted kind-commits kind-writes kind-judged-read kind-own-read
   valued-read h c asked =
       let p = place-at b (place-of h) in
       let value = cell-of (s .table) c in

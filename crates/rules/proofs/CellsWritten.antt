@@ -21,7 +21,7 @@ use Rattle.rules.specs.Cells.{draft-of, with-cell, with-draft, laid-over
 use Rattle.rules.specs.Daylog.{Proper, write-kind, commit-kind, post-kind, no-value, kind-starts, kind-commits, kind-writes, kind-judged-read, kind-own-read}
 use Rattle.rules.specs.State.{State, recorded}
 use Rattle.rules.specs.Day.{Event, whose, event, events, wrote-cell, written-value}
-use Rattle.rules.specs.Steps.{record-at, number-of, commit-books, granted-commit-of, write-of, post-of}
+use Rattle.rules.specs.Steps.{record-at, number-of, books-granted, granted-of, judged-commit, write-of, post-of}
 use Rattle.rules.specs.Calls.{Lending}
 use Rattle.rules.specs.Kept.{LiveCaller, WriteAsked, CommitAsked, PostAsked}
 use Rattle.rules.specs.Run.{Machine, after-call}
@@ -207,8 +207,8 @@ module _ (z : Size) (l : Lending) (m : Machine) (w : Within z) (mirror : Mirrore
         (λ i k live c. value-past the-commit es (place-at b i .begin) c refl)
 
     -- a commit, were it granted, keeps all in step
-    pub valued-commit : Valued z (after-call m (granted-commit-of z s at))
-    unfolding after-call granted-commit-of commit-books recorded kind-judged-read kind-own-read
+    pub valued-commit : Valued z (after-call m (granted-of s at (judged-commit z s at)))
+    unfolding after-call granted-of books-granted recorded kind-judged-read kind-own-read
     valued-commit =
         valued-adds z m valued commit-record _
         (caller-proper z m mirror h (asked .caller) w commit-kind 0 no-value (omega arith) (omega arith) refl zeros-in-bytes)

@@ -7,47 +7,42 @@ use mathlib.Core.Bool.{Bool, true, false, not, cond}
 use mathlib.Core.List.{List}
 use lib.ListN.{length}
 use lib.Dec.{eqb}
-use borrow.Author.Tests.{eqb-false, not-true}
-use Rattle.basics.proofs.Bools.{never}
+use native.Mathlib.Omega.{arith}
+use borrow.Author.Tests.{eqb-false, ne-eqb, not-true}
 use Rattle.basics.specs.Lists.{allIn}
 use Rattle.rules.specs.Sizes.{Size}
-use Rattle.rules.specs.Books.{Books, place-at, wrote}
 use Rattle.rules.specs.Handles.{place-of}
 use Rattle.rules.specs.Judging.{has-cycle}
 use Rattle.rules.specs.Numbers.{granted, conflict, Reason, first-reason}
-use Rattle.rules.specs.Daylog.{read-conflict-kind, commit-conflict-kind}
 use Rattle.rules.specs.State.{State, Outcome, refused, unless-refused}
-use Rattle.rules.specs.Steps.{soundness-reason, handle-reasons, cell-reason, handle-cell-reasons, room-reason, read-reasons, commit-reasons, turned-back, meets-conflict, weighed, read-books, commit-books, own-read-of, granted-read-of, judged-read-of, granted-commit-of, judged-commit-of, open-rule, begin-rule, write-rule, read-rule, show-rule, commit-rule, give-up-rule, post-rule, order-rule, close-rule, begin-of, write-of, read-of, show-of, give-up-of, post-of, order-of, close-of}
-use Rattle.rules.specs.Calls.{Call, Open, Begin, Write, Read, Show, Commit, GiveUp, Post, Order, Close, Lending, issued}
+use Rattle.rules.specs.Steps.{soundness-reason, handle-reasons, cell-reason, handle-cell-reasons, room-reason, begin-reasons, write-reasons, read-reasons, show-reasons, commit-reasons, give-up-reasons, post-reasons, order-reasons, close-reasons, Judged, books-granted, granted-of, turned-back, meets-conflict, judged-of, own-read-of, open-rule, begin-rule, write-rule, read-rule, show-rule, commit-rule, give-up-rule, post-rule, order-rule, close-rule, begin-of, write-of, read-of, show-of, give-up-of, post-of, order-of, close-of}
+use Rattle.rules.specs.Calls.{Call, Open, Begin, Write, Read, Show, Commit, GiveUp, Post, Order, Close, Lending, issued, reasons-of, handed-on, owns, IsJudged, read-judged, commit-judged}
 use Rattle.rules.specs.Kept.{BeginAsked, WriteAsked, ReadAsked, ShowAsked, CommitAsked, GiveUpAsked, PostAsked, OrderAsked, CloseAsked}
 use Rattle.rules.proofs.Asked.{begin-asked, write-asked, read-asked, show-asked, commit-asked, give-up-asked, post-asked, order-asked, close-asked}
 use Rattle.rules.proofs.Reasons.{first-among, refused-or-not}
 
 -- ---- one rule
 
--- the calls that are judged
-abbrev pub is-judged : Call → Bool
-is-judged Open = false
-is-judged Begin = false
-is-judged (Write h c value) = false
-is-judged (Read h c) = true
-is-judged (Show given h c) = false
-is-judged (Commit h) = true
-is-judged (GiveUp h) = false
-is-judged (Post c value) = false
-is-judged (Order h) = false
-is-judged Close = false
+-- 0 is not 9
+pub never-nine : granted ≢ conflict
+never-nine e = omega arith
 
--- no reason to refuse a judged call has the number of Conflict
-read-no-nine : (z : Size) (table drafts log : ℕ) (b : Books) (h c : ℕ) → first-reason (read-reasons z table drafts log b h c) ≢ conflict
-unfolding allIn read-reasons handle-cell-reasons soundness-reason handle-reasons cell-reason room-reason
-read-no-nine z table drafts log b h c e =
-    eqb-false _ conflict (not-true _ (first-among (λ n. not (eqb n conflict)) (read-reasons z table drafts log b h c) refl refl)) e
+-- no reason to refuse a call has the number of Conflict, but that which a show hands on
+none-nine : (z : Size) (l : Lending) (s : State) (c : Call) → handed-on c ≢ conflict → allIn (λ r. not (eqb (r .number) conflict)) (reasons-of z l c s) ≡ true
+unfolding reasons-of allIn begin-reasons write-reasons read-reasons show-reasons commit-reasons give-up-reasons post-reasons order-reasons close-reasons handle-cell-reasons soundness-reason handle-reasons cell-reason room-reason
+none-nine z l s Open k = refl
+none-nine z l s Begin k = refl
+none-nine z l s (Write h c value) k = refl
+none-nine z l s (Read h c) k = refl
+none-nine z l s (Show given h c) k = rw (ne-eqb given conflict k) refl
+none-nine z l s (Commit h) k = refl
+none-nine z l s (GiveUp h) k = refl
+none-nine z l s (Post c value) k = refl
+none-nine z l s (Order h) k = refl
+none-nine z l s Close k = refl
 
-commit-no-nine : (z : Size) (table drafts log : ℕ) (b : Books) (h : ℕ) → first-reason (commit-reasons z table drafts log b h) ≢ conflict
-unfolding allIn commit-reasons soundness-reason handle-reasons
-commit-no-nine z table drafts log b h e =
-    eqb-false _ conflict (not-true _ (first-among (λ n. not (eqb n conflict)) (commit-reasons z table drafts log b h) refl refl)) e
+pub no-nine : (z : Size) (l : Lending) (s : State) (c : Call) → handed-on c ≢ conflict → first-reason (reasons-of z l c s) ≢ conflict
+no-nine z l s c k = eqb-false _ conflict (not-true _ (first-among (λ n. not (eqb n conflict)) (reasons-of z l c s) refl (none-nine z l s c k)))
 
 -- what holds of a refusal, and of the outcome where no reason applies, holds of the rule
 pub refused-or : (P : Outcome → Type 0) (reasons : List Reason) (s : State) (o : Outcome) → ((n : ℕ) → n ≢ granted → P (refused n s))
@@ -55,72 +50,88 @@ pub refused-or : (P : Outcome → Type 0) (reasons : List Reason) (s : State) (o
 refused-or P reasons s o back on =
     ⊎-elim (λ g. subst P (sym (g .1)) (on (g .0))) (λ g. subst P (sym (g .1)) (back (first-reason reasons) (g .0))) (refused-or-not reasons s o)
 
--- so of a rule whose reasons cannot give the number of Conflict
-refused-but : (P : Outcome → Type 0) (reasons : List Reason) (s : State) (o : Outcome) → first-reason reasons ≢ conflict
-    → ((n : ℕ) → n ≢ granted → n ≢ conflict → P (refused n s)) → (first-reason reasons ≡ granted → P o) → P (unless-refused reasons s o)
-refused-but P reasons s o no-nine back on =
-    ⊎-elim (λ g. subst P (sym (g .1)) (on (g .0))) (λ g. subst P (sym (g .1)) (back (first-reason reasons) (g .0) no-nine)) (refused-or-not reasons s o)
-
 -- of one of two outcomes, what holds of both
 pub one-of : (P : Outcome → Type 0) (t : Bool) (one other : Outcome) → (t ≡ true → P one) → (t ≡ false → P other) → P (cond t one other)
 one-of P true one other h k = h refl
 one-of P false one other h k = k refl
 
+-- ---- what is asked
+
+-- of each call
+abbrev pub AskedOf : Size → Lending → State → Call → Type 0
+AskedOf z l s Open = Unit
+AskedOf z l s Begin = BeginAsked z (l .log) (s .books)
+AskedOf z l s (Write h c value) = WriteAsked z (length value) (length (s .drafts)) (l .log) (s .books) h c
+AskedOf z l s (Read h c) = ReadAsked z (length (s .table)) (length (s .drafts)) (l .log) (s .books) h c
+AskedOf z l s (Show given h c) = ShowAsked z (length (s .table)) (length (s .drafts)) (s .books) given h c
+AskedOf z l s (Commit h) = CommitAsked z (length (s .table)) (length (s .drafts)) (l .log) (s .books) h
+AskedOf z l s (GiveUp h) = GiveUpAsked z (l .log) (s .books) h
+AskedOf z l s (Post c value) = PostAsked z (length value) (length (s .table)) (l .log) (s .books) c
+AskedOf z l s (Order h) = OrderAsked z (l .buffer) (s .books) h
+AskedOf z l s Close = CloseAsked z (l .log) (s .books)
+
+-- it is known where no reason applies
+pub asked-of : (z : Size) (l : Lending) (s : State) (c : Call) → first-reason (reasons-of z l c s) ≡ granted → AskedOf z l s c
+unfolding reasons-of
+asked-of z l s Open = λ g. tt
+asked-of z l s Begin = begin-asked z (l .log) (s .books)
+asked-of z l s (Write h c value) = write-asked z (length value) (length (s .drafts)) (l .log) (s .books) h c
+asked-of z l s (Read h c) = read-asked z (length (s .table)) (length (s .drafts)) (l .log) (s .books) h c
+asked-of z l s (Show given h c) = show-asked z (length (s .table)) (length (s .drafts)) (s .books) given h c
+asked-of z l s (Commit h) = commit-asked z (length (s .table)) (length (s .drafts)) (l .log) (s .books) h
+asked-of z l s (GiveUp h) = give-up-asked z (l .log) (s .books) h
+asked-of z l s (Post c value) = post-asked z (length value) (length (s .table)) (l .log) (s .books) c
+asked-of z l s (Order h) = order-asked z (l .buffer) (s .books) h
+asked-of z l s Close = close-asked z (l .log) (s .books)
+
 -- ---- every call
 
 -- what is to be shown of each outcome, to show it of every call
 pub record EachOutcome (z : Size) (l : Lending) (s : State) (P : Call → Outcome → Type 0) : Type 0 where
-  pub on-refused : (c : Call) (n : ℕ) → n ≢ granted → (is-judged c ≡ true → n ≢ conflict) → P c (refused n s)
+  pub on-refused : (c : Call) (n : ℕ) → n ≢ granted → (handed-on c ≢ conflict → n ≢ conflict) → P c (refused n s)
   pub on-open : P Open (open-rule s)
-  pub on-begin : BeginAsked z (l .log) (s .books) → P Begin (begin-of z s)
-  pub on-write : (h c : ℕ) (value : List ℕ) → WriteAsked z (length value) (length (s .drafts)) (l .log) (s .books) h c
-      → P (Write h c value) (write-of z s (place-of h) c value)
-  pub on-own-read : (h c : ℕ) → ReadAsked z (length (s .table)) (length (s .drafts)) (l .log) (s .books) h c
-      → wrote (place-at (s .books) (place-of h)) c ≡ true → P (Read h c) (own-read-of z s (place-of h) c)
-  pub on-read : (h c : ℕ) → ReadAsked z (length (s .table)) (length (s .drafts)) (l .log) (s .books) h c
-      → wrote (place-at (s .books) (place-of h)) c ≡ false → has-cycle z (read-books z (s .books) (place-of h) c) (place-of h) ≡ false
-      → P (Read h c) (granted-read-of z s (place-of h) c)
-  pub on-read-back : (h c : ℕ) → ReadAsked z (length (s .table)) (length (s .drafts)) (l .log) (s .books) h c
-      → wrote (place-at (s .books) (place-of h)) c ≡ false → has-cycle z (read-books z (s .books) (place-of h) c) (place-of h) ≡ true
-      → P (Read h c) (turned-back s read-conflict-kind (place-of h) c)
-  pub on-show : (given h c : ℕ) → ShowAsked z (length (s .table)) (length (s .drafts)) (s .books) given h c → P (Show given h c) (show-of z s (place-of h) c)
-  pub on-commit : (h : ℕ) → CommitAsked z (length (s .table)) (length (s .drafts)) (l .log) (s .books) h
-      → has-cycle z (commit-books z (s .books) (place-of h)) (place-of h) ≡ false → P (Commit h) (granted-commit-of z s (place-of h))
-  pub on-commit-back : (h : ℕ) → CommitAsked z (length (s .table)) (length (s .drafts)) (l .log) (s .books) h
-      → has-cycle z (commit-books z (s .books) (place-of h)) (place-of h) ≡ true → P (Commit h) (turned-back s commit-conflict-kind (place-of h) 0)
-  pub on-give-up : (h : ℕ) → GiveUpAsked z (l .log) (s .books) h → P (GiveUp h) (give-up-of z s (place-of h))
-  pub on-post : (c : ℕ) (value : List ℕ) → PostAsked z (length value) (length (s .table)) (l .log) (s .books) c → P (Post c value) (post-of z s c value)
-  pub on-order : (h : ℕ) → OrderAsked z (l .buffer) (s .books) h → P (Order h) (order-of z s (place-of h))
-  pub on-close : CloseAsked z (l .log) (s .books) → P Close (close-of z (l .total) s)
+  pub on-begin : AskedOf z l s Begin → P Begin (begin-of z s)
+  pub on-write : (h c : ℕ) (value : List ℕ) → AskedOf z l s (Write h c value) → P (Write h c value) (write-of z s (place-of h) c value)
+  pub on-own-read : (h c : ℕ) → AskedOf z l s (Read h c) → owns (s .books) h c ≡ true → P (Read h c) (own-read-of z s (place-of h) c)
+  -- a judged call: granted, or turned back
+  pub on-judged : {c : Call} {h : ℕ} {j : Judged} → IsJudged z (owns (s .books)) s c h j → AskedOf z l s c
+      → has-cycle z (books-granted (s .books) (place-of h) j) (place-of h) ≡ false → P c (granted-of s (place-of h) j)
+  pub on-turned-back : {c : Call} {h : ℕ} {j : Judged} → IsJudged z (owns (s .books)) s c h j → AskedOf z l s c
+      → has-cycle z (books-granted (s .books) (place-of h) j) (place-of h) ≡ true → P c (turned-back s (j .back) (place-of h) (j .cell))
+  pub on-show : (given h c : ℕ) → AskedOf z l s (Show given h c) → P (Show given h c) (show-of z s (place-of h) c)
+  pub on-give-up : (h : ℕ) → AskedOf z l s (GiveUp h) → P (GiveUp h) (give-up-of z s (place-of h))
+  pub on-post : (c : ℕ) (value : List ℕ) → AskedOf z l s (Post c value) → P (Post c value) (post-of z s c value)
+  pub on-order : (h : ℕ) → AskedOf z l s (Order h) → P (Order h) (order-of z s (place-of h))
+  pub on-close : AskedOf z l s Close → P Close (close-of z (l .total) s)
 
 module _ (z : Size) (l : Lending) (s : State) (P : Call → Outcome → Type 0) (each : EachOutcome z l s P) where
-  read-cases : (h c : ℕ) → ReadAsked z (length (s .table)) (length (s .drafts)) (l .log) (s .books) h c → P (Read h c) (read-of z s (place-of h) c)
-  unfolding read-of judged-read-of weighed meets-conflict
-  read-cases h c asked =
-      one-of (P (Read h c)) (wrote (place-at (s .books) (place-of h)) c) _ _ (each .on-own-read h c asked)
-      (λ own. one-of (P (Read h c)) (has-cycle z (read-books z (s .books) (place-of h) c) (place-of h)) _ _
-      (each .on-read-back h c asked own) (each .on-read h c asked own))
+  -- refused, or the outcome
+  ruled : (c : Call) (o : Outcome) → (AskedOf z l s c → P c o) → P c (unless-refused (reasons-of z l c s) s o)
+  ruled c o on =
+      let reasons = reasons-of z l c s in
+      ⊎-elim (λ g. subst (P c) (sym (g .1)) (on (asked-of z l s c (g .0))))
+      (λ g. subst (P c) (sym (g .1)) (each .on-refused c (first-reason reasons) (g .0) (no-nine z l s c))) (refused-or-not reasons s o)
 
-  commit-cases : (h : ℕ) → CommitAsked z (length (s .table)) (length (s .drafts)) (l .log) (s .books) h → P (Commit h) (judged-commit-of z s (place-of h))
-  unfolding judged-commit-of weighed meets-conflict
-  commit-cases h asked =
-      one-of (P (Commit h)) (has-cycle z (commit-books z (s .books) (place-of h)) (place-of h)) _ _
-      (each .on-commit-back h asked) (each .on-commit h asked)
+  -- a judged call, weighed
+  weighed : {c : Call} {h : ℕ} {j : Judged} → IsJudged z (owns (s .books)) s c h j → AskedOf z l s c → P c (judged-of z s (place-of h) j)
+  unfolding judged-of meets-conflict
+  weighed {c} {h} {j} judged asked =
+      one-of (P c) (has-cycle z (books-granted (s .books) (place-of h) j) (place-of h)) _ _ (each .on-turned-back judged asked) (each .on-judged judged asked)
+
+  read-cases : (h c : ℕ) → AskedOf z l s (Read h c) → P (Read h c) (read-of z s (place-of h) c)
+  unfolding read-of
+  read-cases h c asked =
+      one-of (P (Read h c)) (owns (s .books) h c) _ _ (each .on-own-read h c asked) (λ other. weighed (read-judged h c other) asked)
 
   pub each-call : (c : Call) → P c (issued z l c s)
-  unfolding issued begin-rule write-rule read-rule show-rule commit-rule give-up-rule post-rule order-rule close-rule
+  unfolding issued reasons-of begin-rule write-rule read-rule show-rule commit-rule give-up-rule post-rule order-rule close-rule
   each-call Open = each .on-open
-  each-call Begin = refused-or (P Begin) _ s _ (λ n k. each .on-refused Begin n k never) (λ g. each .on-begin (begin-asked z (l .log) (s .books) g))
-  each-call (Write h c value) =
-      refused-or (P (Write h c value)) _ s _ (λ n k. each .on-refused (Write h c value) n k never) (λ g. each .on-write h c value (write-asked z (length value) (length (s .drafts)) (l .log) (s .books) h c g))
-  each-call (Read h c) =
-      refused-but (P (Read h c)) _ s _ (read-no-nine z (length (s .table)) (length (s .drafts)) (l .log) (s .books) h c) (λ n k o. each .on-refused (Read h c) n k (λ j. o)) (λ g. read-cases h c (read-asked z (length (s .table)) (length (s .drafts)) (l .log) (s .books) h c g))
-  each-call (Show given h c) =
-      refused-or (P (Show given h c)) _ s _ (λ n k. each .on-refused (Show given h c) n k never) (λ g. each .on-show given h c (show-asked z (length (s .table)) (length (s .drafts)) (s .books) given h c g))
-  each-call (Commit h) =
-      refused-but (P (Commit h)) _ s _ (commit-no-nine z (length (s .table)) (length (s .drafts)) (l .log) (s .books) h) (λ n k o. each .on-refused (Commit h) n k (λ j. o)) (λ g. commit-cases h (commit-asked z (length (s .table)) (length (s .drafts)) (l .log) (s .books) h g))
-  each-call (GiveUp h) = refused-or (P (GiveUp h)) _ s _ (λ n k. each .on-refused (GiveUp h) n k never) (λ g. each .on-give-up h (give-up-asked z (l .log) (s .books) h g))
-  each-call (Post c value) =
-      refused-or (P (Post c value)) _ s _ (λ n k. each .on-refused (Post c value) n k never) (λ g. each .on-post c value (post-asked z (length value) (length (s .table)) (l .log) (s .books) c g))
-  each-call (Order h) = refused-or (P (Order h)) _ s _ (λ n k. each .on-refused (Order h) n k never) (λ g. each .on-order h (order-asked z (l .buffer) (s .books) h g))
-  each-call Close = refused-or (P Close) _ s _ (λ n k. each .on-refused Close n k never) (λ g. each .on-close (close-asked z (l .log) (s .books) g))
+  each-call Begin = ruled Begin _ (each .on-begin)
+  each-call (Write h c value) = ruled (Write h c value) _ (each .on-write h c value)
+  each-call (Read h c) = ruled (Read h c) _ (read-cases h c)
+  each-call (Show given h c) = ruled (Show given h c) _ (each .on-show given h c)
+  each-call (Commit h) = ruled (Commit h) _ (weighed (commit-judged h))
+  each-call (GiveUp h) = ruled (GiveUp h) _ (each .on-give-up h)
+  each-call (Post c value) = ruled (Post c value) _ (each .on-post c value)
+  each-call (Order h) = ruled (Order h) _ (each .on-order h)
+  each-call Close = ruled Close _ (each .on-close)

@@ -1,5 +1,5 @@
 -- The transactions of a day stay explained as records are added: a record that sets no moment of a transaction moves neither its company nor
--- their pairs, and one that starts it puts it behind everybody. So only a judged read and a commit have to be without a cycle themselves.
+-- their pairs, and one that starts it puts it behind everybody. So only the judged kinds have to be without a cycle themselves.
 -- Rests on the pairs that arise with one record and on the laws of commits and moments. Assumes nothing.
 use Prim.Native.Nat.{ℕ, suc, _<_}
 use mathlib.Core.Path.{_≡_, refl, sym, _∙_, ap, subst}
@@ -16,7 +16,7 @@ use Rattle.basics.proofs.Bools.{split, clash, false-of-not, and-left, and-right
 use Rattle.basics.proofs.Walk.{first-step, map-cycle, cycle-followed}
 use Rattle.rules.specs.declared.Record.{Record}
 use Rattle.rules.specs.Sizes.{Size}
-use Rattle.rules.specs.Daylog.{begin-kind, commit-kind, post-kind, kind-starts, kind-commits, kind-judged-read}
+use Rattle.rules.specs.Daylog.{begin-kind, commit-kind, post-kind, kind-starts, kind-commits, kind-judged-read, kind-judged}
 use Rattle.rules.specs.Layout.{walks}
 use Rattle.rules.specs.Day.{Event, whose, event, events, is-transaction, commit-of, committed, sets-moment, moment-of, wrote-cell, company-of, day-real-time, day-write-write, day-write-read, day-read-write, day-before}
 use Rattle.rules.specs.Runs.{DayPair}
@@ -48,9 +48,9 @@ explained-new z = record { each = λ t i. absurd (false≢true i); all = λ c. f
 -- ---- kinds
 
 module _ (k : ℕ) where
-  -- a kind that sets the moment and starts nothing is a judged read or a commit
-  sets-judged : sets-moment k ≡ true → kind-starts k ≡ false → kind-judged-read k || eqb k commit-kind ≡ true
-  unfolding sets-moment kind-starts kind-commits
+  -- a kind that sets the moment and starts nothing is a judged kind
+  sets-judged : sets-moment k ≡ true → kind-starts k ≡ false → kind-judged k ≡ true
+  unfolding sets-moment kind-starts kind-commits kind-judged
   sets-judged e s =
       let reads = kind-judged-read k in
       let post = eqb k post-kind in
@@ -194,7 +194,7 @@ module _ (z : Size) (r : Record) (day : List Record) (w : walks z (r ∷ day) �
 
   -- ---- all of it
 
-  module _ (known : Explained z day) (judged : kind-judged-read (r .kind) || eqb (r .kind) commit-kind ≡ true → Cycle (DayPair z more u) → ⊥) where
+  module _ (known : Explained z day) (judged : kind-judged (r .kind) ≡ true → Cycle (DayPair z more u) → ⊥) where
     -- the record sets the moment of its own transaction, as a start or as judged, or all is as before
     each-more : (t : ℕ) → is-transaction more t ≡ true → Cycle (DayPair z more t) → ⊥
     each-more t i c =
@@ -216,8 +216,8 @@ module _ (z : Size) (r : Record) (day : List Record) (w : walks z (r ∷ day) �
         λ k h. ⊎-elim (λ q. absurd (clash (q .1) e)) (λ a. a) (committed-cases r day k h) in
         known .all (map-cycle (λ k m p. (was k (p .0), was m (p .1), pair-committed k m (was m (p .1)) (p .2))) c))
 
--- one record more: only a judged read and a commit have to be without a cycle themselves
+-- one record more: only those of the judged kinds have to be without a cycle themselves
 pub explained-more : (z : Size) (r : Record) (day : List Record) → walks z (r ∷ day) ≡ true → Explained z day
-    → (kind-judged-read (r .kind) || eqb (r .kind) commit-kind ≡ true → Cycle (DayPair z (events (r ∷ day)) (whose day r)) → ⊥)
+    → (kind-judged (r .kind) ≡ true → Cycle (DayPair z (events (r ∷ day)) (whose day r)) → ⊥)
     → Explained z (r ∷ day)
 explained-more z r day w known judged = record { each = each-more z r day w known judged; all = all-more z r day w known judged }

@@ -28,6 +28,7 @@ pub mod Holders
 pub mod InTime
 pub mod InTurn
 pub mod Joined
+pub mod JudgedStep
 pub mod Judging
 pub mod LaidOut
 pub mod LastWrites
@@ -55,6 +56,7 @@ pub mod Shape
 pub mod Shown
 pub mod Sound
 pub mod SoundAfter
+pub mod SoundCalls
 pub mod SoundKept
 pub mod SoundStep
 pub mod TakenApart

@@ -33,8 +33,7 @@ pub permissive-kept : (z : Size) (m : Machine) → Kept z m → Permissive (m .o
 permissive-kept z m kept =
     record {
       has-it = opaque-kept z m kept;
-      no-read = λ newer earlier r value q k. cyclic-not-opaque z (m .opening) earlier _ (kept .rightly newer earlier r q .0 k value);
-      no-commit = λ newer earlier r q k. cyclic-not-opaque z (m .opening) earlier _ (kept .rightly newer earlier r q .1 k);
+      no-grant = λ newer earlier r value q k. cyclic-not-opaque z (m .opening) earlier _ (kept .rightly newer earlier r q k value);
     }
 
 pub days-permissive : DaysPermissive

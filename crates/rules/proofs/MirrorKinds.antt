@@ -164,8 +164,8 @@ module _ (z : Size) (day : List Record) (i : ℕ) (p : Place) where
           goes-on (record-at judged-read-kind i p c value) (read-marked p c n) refl refl refl (m .status)
           (record { begin = here .begin; turn = here .turn; cells = here .cells }) (changes-read z n p c inside w)
 
-      pub mirrors-sealed : Mirrors z (record-at commit-kind i p 0 no-value ∷ day) i (sealed p n)
+      pub mirrors-sealed : (value : List ℕ) → Mirrors z (record-at commit-kind i p 0 value ∷ day) i (sealed p n)
       unfolding sealed moved kind-starts
-      mirrors-sealed =
-          goes-on (record-at commit-kind i p 0 no-value) (sealed p n) refl refl refl refl
+      mirrors-sealed value =
+          goes-on (record-at commit-kind i p 0 value) (sealed p n) refl refl refl refl
           (record { begin = here .begin; turn = here .turn; cells = here .cells }) (changes-sealed z n p)

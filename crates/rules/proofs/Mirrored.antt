@@ -16,26 +16,26 @@ use Rattle.basics.proofs.Says.{not-says, if-says}
 use Rattle.rules.specs.declared.Place.{Place}
 use Rattle.rules.specs.declared.Record.{Record}
 use Rattle.rules.specs.Sizes.{Size, Within, width}
-use Rattle.rules.specs.Books.{Books, Shaped, place-at, wrote, freed, begun, posted, marked, read-marked, sealed, with-place, with-record, no-place, opened, closed, lowest-free}
+use Rattle.rules.specs.Books.{Books, Shaped, place-at, wrote, freed, begun, posted, marked, with-place, with-record, no-place, opened, closed, lowest-free}
 use Rattle.rules.specs.Handles.{place-of}
 use Rattle.rules.specs.Sound.{Sound}
 use Rattle.rules.specs.Cells.{draft-of}
 use Rattle.rules.specs.Daylog.{lowest-kind, highest-kind, begin-kind, judged-read-kind, own-read-kind, write-kind, commit-kind, give-up-kind, read-conflict-kind, commit-conflict-kind, post-kind, kind-starts, kind-frees, kind-has-cell, kind-has-value, no-value}
 use Rattle.rules.specs.Layout.{seat, fits, fields-right, walks}
 use Rattle.rules.specs.State.{Outcome, refused, recorded}
-use Rattle.rules.specs.Steps.{number-of, record-at, turned-back, read-books, commit-books, own-read-of, granted-read-of, granted-commit-of, open-rule, begin-of, write-of, show-of, give-up-of, post-of, order-of, close-of}
-use Rattle.rules.specs.Calls.{Call, Lending}
-use Rattle.rules.specs.Kept.{LiveCaller, BeginAsked, WriteAsked, ReadAsked, CommitAsked, PostAsked}
+use Rattle.rules.specs.Steps.{number-of, record-at, Judged, books-granted, granted-of, turned-back, own-read-of, open-rule, begin-of, write-of, show-of, give-up-of, post-of, order-of, close-of}
+use Rattle.rules.specs.Calls.{Call, Lending, owns, IsJudged, read-judged, commit-judged}
+use Rattle.rules.specs.Kept.{LiveCaller, BeginAsked, WriteAsked, ReadAsked, PostAsked}
 use Rattle.rules.specs.Run.{Machine, lends, outcome, new-day, moved-on, after-call}
 use Rattle.rules.specs.Runs.{DayStarts}
 use Rattle.rules.proofs.Mirror.{Holds, Mirrors, Mirrored}
 use Rattle.rules.proofs.Asked.{lowest-is-free}
-use Rattle.rules.proofs.EachCall.{EachOutcome, each-call}
-use Rattle.rules.proofs.Handles.{place-of-below}
-use Rattle.rules.proofs.Shape.{Wide, wide-freed, wide-read-marked, wide-sealed, place-at-same, place-at-other, place-at-opened, place-at-closed, shaped-wide, shaped-opened, shaped-closed, shaped-with-place}
+use Rattle.rules.proofs.EachCall.{AskedOf, EachOutcome, each-call}
+use Rattle.rules.proofs.JudgedStep.{allowed, frees-only, wide-caller, judged-step}
+use Rattle.rules.proofs.Shape.{wide-freed, place-at-same, place-at-other, place-at-opened, place-at-closed, shaped-opened, shaped-closed, shaped-with-place}
 use Rattle.rules.proofs.Sound.{sound-says}
 use Rattle.rules.proofs.SoundKept.{sound-opened, sound-closed}
-use Rattle.rules.proofs.SoundAfter.{shape-each, sound-each, sound-read, sound-commit}
+use Rattle.rules.proofs.SoundCalls.{shape-judged, shape-each, sound-judged, sound-each}
 use Rattle.rules.proofs.Seats.{LiveSeat}
 use Rattle.rules.proofs.CommittedHeld.{none-committed}
 use Rattle.rules.proofs.MirrorStep.{mirrored-more}
@@ -138,15 +138,12 @@ module _ (z : Size) (l : Lending) (m : Machine) (w : Within z) (mirror : Mirrore
     abbrev p : Place
     p = place-at b i
 
-    -- it mirrors its seat, is held and wide
+    -- it mirrors its seat, and is held
     here : Mirrors z day i p
     here = mirror .places i (caller .place)
 
     held : Holds z day i p
     held = here .holds (rw (caller .live))
-
-    wide : Wide p
-    wide = shaped-wide i (mirror .shape) (place-of-below h)
 
     -- a record that starts nothing, and what it asks of its cell
     caller-fits : (kind c : ℕ) (value : List ℕ) → kind-starts kind ≡ false → (eqb kind own-read-kind ≡ true → (c < z .cells) × (wrote p c ≡ true))
@@ -158,41 +155,55 @@ module _ (z : Size) (l : Lending) (m : Machine) (w : Within z) (mirror : Mirrore
 
     -- a record that frees the place
     caller-freed : (kind c : ℕ) → let r = record-at kind i p c no-value in
-        kind-frees kind ≡ true → fields-right z r ≡ true → fits day r ≡ true → Sound z (with-place b i (freed p)) → Mirrored z (with-place b i (freed p)) (r ∷ day)
-    caller-freed kind c k right fit sound =
+        kind-frees kind ≡ true → cond (kind-has-cell kind) (ltb c (z .cells)) (eqb c 0) ≡ true → fits day r ≡ true → Sound z (with-place b i (freed p))
+        → Mirrored z (with-place b i (freed p)) (r ∷ day)
+    unfolding same
+    caller-freed kind c k cell fit sound =
         let r = record-at kind i p c no-value in
-        changed r (freed p) (caller .place) right fit (mirrors-freed z day i p r refl k) (shaped-with-place i (wide-freed p) (mirror .shape)) sound
+        changed r (freed p) (caller .place) (right z r (frees-only kind k .known) (caller .place) cell (allowed (kind-has-value kind) _ (λ e. refl))) fit
+        (mirrors-freed z day i p r refl k) (shaped-with-place i (wide-freed p) (mirror .shape)) sound
 
-  -- a read, were it granted, with whatever value, and a commit, were it granted
-  pub mirrored-read : (h c : ℕ) (value : List ℕ) → ReadAsked z (length (m .state .table)) (length (m .state .drafts)) (l .log) (m .state .books) h c
-      → wrote (place-at (m .state .books) (place-of h)) c ≡ false
-      → Mirrored z (read-books z (m .state .books) (place-of h) c) (record-at judged-read-kind (place-of h) (place-at (m .state .books) (place-of h)) c value ∷ m .day)
-  unfolding read-books kind-starts kind-has-cell kind-has-value
-  mirrored-read h c value asked unwritten =
-      let caller = asked .caller in
-      let i = place-of h in
-      let p = place-at b i in
-      let inside : c < width = omega (arith, w .cells, asked .cell) in
-      changed (record-at judged-read-kind i p c value) (read-marked p c (number-of b)) (caller .place)
-      (right z _ refl (caller .place) (lt-ltb c (z .cells) (asked .cell)) refl)
-      (caller-fits h caller judged-read-kind c value refl never (λ e. (asked .cell, unwritten)))
-      (mirrors-read z day i p (number-of b) number (here h caller) (caller .live) c value inside (wide h caller))
-      (shaped-with-place i (wide-read-marked c _ (wide h caller)) (mirror .shape))
-      (sound-read z l (m .state) (mirror .shape) w (mirror .sound) h c asked)
+  -- ---- a judged call
 
-  pub mirrored-commit : (h : ℕ) → CommitAsked z (length (m .state .table)) (length (m .state .drafts)) (l .log) (m .state .books) h
-      → Mirrored z (commit-books z (m .state .books) (place-of h)) (record-at commit-kind (place-of h) (place-at (m .state .books) (place-of h)) 0 no-value ∷ m .day)
-  unfolding commit-books kind-starts kind-has-cell kind-has-value same
-  mirrored-commit h asked =
+  -- what the records of a judged call are behind the day: that which it would add, with whatever value, and that of its Conflict
+  record RecordsFit (h : ℕ) (j : Judged) : Type 0 where
+    known : leb lowest-kind (j .kind) && leb (j .kind) highest-kind ≡ true
+    fit : (value : List ℕ) → fits day (record-at (j .kind) (place-of h) (place-at b (place-of h)) (j .cell) value) ≡ true
+    mirrors : (value : List ℕ) → Mirrors z (record-at (j .kind) (place-of h) (place-at b (place-of h)) (j .cell) value ∷ day) (place-of h) (j .place)
+    back-fit : fits day (record-at (j .back) (place-of h) (place-at b (place-of h)) (j .cell) no-value) ≡ true
+
+  -- each of the judged calls
+  records-fit : {c : Call} {h : ℕ} {j : Judged} → IsJudged z (owns b) (m .state) c h j → AskedOf z l (m .state) c → RecordsFit h j
+  unfolding kind-starts
+  records-fit (read-judged h c other) asked =
       let caller = asked .caller in
-      let i = place-of h in
-      let p = place-at b i in
-      changed (record-at commit-kind i p 0 no-value) (sealed p (number-of b)) (caller .place)
-      (right z _ refl (caller .place) refl refl)
-      (caller-fits h caller commit-kind 0 no-value refl never never)
-      (mirrors-sealed z day i p (number-of b) number (here h caller) (caller .live))
-      (shaped-with-place i (wide-sealed _ (wide h caller)) (mirror .shape))
-      (sound-commit z l (m .state) (mirror .shape) w (mirror .sound) h asked)
+      record {
+        known = refl;
+        fit = λ value. caller-fits h caller judged-read-kind c value refl never (λ e. (asked .cell, other));
+        mirrors = λ value.
+            mirrors-read z day (place-of h) _ (number-of b) number (here h caller) (caller .live) c value (omega (arith, w .cells, asked .cell)) (wide-caller h (mirror .shape));
+        back-fit = caller-fits h caller read-conflict-kind c no-value refl never (λ e. (asked .cell, other));
+      }
+  records-fit (commit-judged h) asked =
+      let caller = asked .caller in
+      record {
+        known = refl;
+        fit = λ value. caller-fits h caller commit-kind 0 value refl never never;
+        mirrors = mirrors-sealed z day (place-of h) _ (number-of b) number (here h caller) (caller .live);
+        back-fit = caller-fits h caller commit-conflict-kind 0 no-value refl never never;
+      }
+
+  -- were it granted, with whatever value where its kind has one
+  pub mirrored-judged : {c : Call} {h : ℕ} {j : Judged} → IsJudged z (owns (m .state .books)) (m .state) c h j → AskedOf z l (m .state) c → (value : List ℕ)
+      → cond (kind-has-value (j .kind)) true (same value no-value) ≡ true
+      → Mirrored z (books-granted (m .state .books) (place-of h) j) (record-at (j .kind) (place-of h) (place-at (m .state .books) (place-of h)) (j .cell) value ∷ m .day)
+  unfolding books-granted
+  mirrored-judged {c} {h} {j} judged asked value allowed =
+      let step = judged-step z l (m .state) judged asked in
+      let records = records-fit judged asked in
+      let there = step .caller .place in
+      changed _ (j .place) there (right z _ (records .known) there (step .cell-right) allowed) (records .fit value) (records .mirrors value)
+      (shape-judged z l (m .state) (mirror .shape) step) (sound-judged z l (m .state) (mirror .shape) w (mirror .sound) step)
 
   -- the books and the day after an outcome mirror each other
   abbrev Keeps : Outcome → Type 0
@@ -238,7 +249,7 @@ module _ (z : Size) (l : Lending) (m : Machine) (w : Within z) (mirror : Mirrore
       let i = place-of h in
       let p = place-at b i in
       let r = record-at write-kind i p c value in
-      let inside : c < length (p .written) = omega (arith, w .cells, asked .cell, wide h caller .written) in
+      let inside : c < length (p .written) = omega (arith, w .cells, asked .cell, wide-caller h (mirror .shape) .written) in
       changed r (marked p c) (caller .place) (right z r refl (caller .place) (lt-ltb c (z .cells) (asked .cell)) refl)
       (caller-fits h caller write-kind c value refl never never)
       (mirrors-marked z day i p (number-of b) number (here h caller) (caller .live) c value inside) (shapes .on-write h c value asked)
@@ -262,7 +273,7 @@ module _ (z : Size) (l : Lending) (m : Machine) (w : Within z) (mirror : Mirrore
 
   -- so does every outcome
   pub mirrored-each : EachOutcome z l (m .state) (λ c o. Mirrored z (after-call m o .state .books) (after-call m o .day))
-  unfolding after-call moved-on new-day refused open-rule granted-read-of show-of granted-commit-of turned-back give-up-of order-of close-of recorded kind-starts kind-frees kind-has-cell kind-has-value same
+  unfolding after-call moved-on new-day refused open-rule granted-of show-of turned-back give-up-of order-of close-of recorded kind-starts kind-frees kind-has-cell kind-has-value
   mirrored-each =
       record {
         on-refused = λ c n k j. mirror;
@@ -270,24 +281,15 @@ module _ (z : Size) (l : Lending) (m : Machine) (w : Within z) (mirror : Mirrore
         on-begin = keeps-begin;
         on-write = keeps-write;
         on-own-read = keeps-own-read;
-        on-read = λ h c asked unwritten free. mirrored-read h c _ asked unwritten;
-        on-read-back = λ h c asked unwritten cycle.
-            let caller = asked .caller in
-            caller-freed h caller read-conflict-kind c refl (right z _ refl (caller .place) (lt-ltb c (z .cells) (asked .cell)) refl)
-            (caller-fits h caller read-conflict-kind c no-value refl never (λ e. (asked .cell, unwritten)))
-            (sounds .on-read-back h c asked unwritten cycle);
+        on-judged = λ judged asked free. mirrored-judged judged asked _ (judged-step z l (m .state) judged asked .value-right);
+        on-turned-back = λ {c} {h} {j} judged asked cycle.
+            let step = judged-step z l (m .state) judged asked in
+            caller-freed h (step .caller) (j .back) (j .cell) (step .frees) (step .back-cell-right) (records-fit judged asked .back-fit)
+            (sounds .on-turned-back judged asked cycle);
         on-show = λ given h c asked. mirror;
-        on-commit = λ h asked free. mirrored-commit h asked;
-        on-commit-back = λ h asked cycle.
-            let caller = asked .caller in
-            caller-freed h caller commit-conflict-kind 0 refl (right z _ refl (caller .place) refl refl)
-            (caller-fits h caller commit-conflict-kind 0 no-value refl never never)
-            (sounds .on-commit-back h asked cycle);
         on-give-up = λ h asked.
             let caller = asked .caller in
-            caller-freed h caller give-up-kind 0 refl (right z _ refl (caller .place) refl refl)
-            (caller-fits h caller give-up-kind 0 no-value refl never never)
-            (sounds .on-give-up h asked);
+            caller-freed h caller give-up-kind 0 refl refl (caller-fits h caller give-up-kind 0 no-value refl never never) (sounds .on-give-up h asked);
         on-post = keeps-post;
         on-order = λ h asked. mirror;
         on-close = λ asked. mirrored-closed z w b (mirror .shape);

@@ -12,11 +12,11 @@ use borrow.Author.Tests.{ltb-true, eqb-true, eq-eqb}
 use Rattle.basics.specs.Lists.{allIn, anyIn}
 use Rattle.basics.proofs.Bools.{split, clash, and-left, and-right, or-false-left, or-false-right}
 use Rattle.rules.specs.Sizes.{Size}
-use Rattle.rules.specs.Books.{Books, place-at, wrote}
+use Rattle.rules.specs.Books.{place-at, wrote}
 use Rattle.rules.specs.Handles.{place-of}
 use Rattle.rules.specs.Numbers.{granted, conflict, Reason, first-reason}
 use Rattle.rules.specs.State.{State, Outcome, refused, unless-refused, recorded}
-use Rattle.rules.specs.Steps.{show-reasons, order-reasons, turned-back, meets-conflict, weighed, granted-read-of, judged-read-of, own-read-of, granted-commit-of, judged-commit-of, open-rule, begin-rule, write-rule, read-rule, show-rule, commit-rule, give-up-rule, post-rule, order-rule, close-rule, begin-of, write-of, read-of, show-of, give-up-of, post-of, order-of, close-of}
+use Rattle.rules.specs.Steps.{show-reasons, order-reasons, Judged, books-granted, granted-of, turned-back, meets-conflict, judged-of, own-read-of, judged-read-of, open-rule, begin-rule, write-rule, read-rule, show-rule, commit-rule, give-up-rule, post-rule, order-rule, close-rule, begin-of, write-of, read-of, show-of, give-up-of, post-of, order-of, close-of}
 use Rattle.rules.specs.Calls.{Call, Open, Begin, Write, Read, Show, Commit, GiveUp, Post, Order, Close, Lending, issued}
 use Rattle.rules.specs.Run.{Machine, moved-on, after-call}
 use Rattle.rules.specs.Statements.{Looks, ChangesNothing, RefusalsChangeNothing, ResultsUnique}
@@ -97,24 +97,21 @@ Settled o = (o .number ≡ granted) ⊎ (o .number ≡ conflict)
 unchanged : (reasons : List Reason) (s : State) (o : Outcome) → Settled o → Unchanged s (unless-refused reasons s o)
 unchanged reasons s o settled n k = other-number reasons s o (λ e. ⊎-elim (λ g. n (e ∙ g)) (λ c. k (e ∙ c)) settled)
 
--- what holds of both outcomes holds of the one that a judged call comes to
-pub either-weighed : (P : Outcome → Type 0) (z : Size) (b : Books) (i : ℕ) (back on : Outcome) → P back → P on → P (weighed z b i back on)
-unfolding weighed
-either-weighed P z b i back on h k = split (meets-conflict z b i) (λ t. rw t h) (λ f. rw f k)
+-- what holds of both outcomes of a judged call holds of the one that it comes to
+pub either-judged : (P : Outcome → Type 0) (z : Size) (s : State) (i : ℕ) (j : Judged) → P (turned-back s (j .back) i (j .cell)) → P (granted-of s i j)
+    → P (judged-of z s i j)
+unfolding judged-of
+either-judged P z s i j h k = split (meets-conflict z (books-granted (s .books) i j) i) (λ t. rw t h) (λ f. rw f k)
 
 -- one of two settled outcomes
 settled-either : (t : Bool) (one other : Outcome) → Settled one → Settled other → Settled (cond t one other)
 settled-either true one other h k = h
 settled-either false one other h k = k
 
--- a judged read or commit is granted or meets Conflict
-settled-read : (z : Size) (s : State) (i c : ℕ) → Settled (judged-read-of z s i c)
-unfolding judged-read-of turned-back granted-read-of recorded
-settled-read z s i c = either-weighed Settled z _ i _ _ (inr refl) (inl refl)
-
-settled-commit : (z : Size) (s : State) (i : ℕ) → Settled (judged-commit-of z s i)
-unfolding judged-commit-of turned-back granted-commit-of recorded
-settled-commit z s i = either-weighed Settled z _ i _ _ (inr refl) (inl refl)
+-- a judged call is granted or meets Conflict
+settled-judged : (z : Size) (s : State) (i : ℕ) (j : Judged) → Settled (judged-of z s i j)
+unfolding turned-back granted-of recorded
+settled-judged z s i j = either-judged Settled z s i j (inr refl) (inl refl)
 
 refusal-unchanged : (z : Size) (l : Lending) (c : Call) (s : State) → Unchanged s (issued z l c s)
 unfolding issued open-rule begin-rule begin-of write-rule write-of read-rule read-of show-rule show-of commit-rule give-up-rule give-up-of post-rule post-of order-rule order-of close-rule close-of recorded own-read-of
@@ -123,9 +120,9 @@ refusal-unchanged z l Begin s = unchanged _ _ _ (inl refl)
 refusal-unchanged z l (Write h c value) s = unchanged _ _ _ (inl refl)
 refusal-unchanged z l (Read h c) s =
     unchanged _ _ _
-    (settled-either (wrote (place-at (s .books) (place-of h)) c) (own-read-of z s (place-of h) c) (judged-read-of z s (place-of h) c) (inl refl) (settled-read z s (place-of h) c))
+    (settled-either (wrote (place-at (s .books) (place-of h)) c) (own-read-of z s (place-of h) c) (judged-read-of z s (place-of h) c) (inl refl) (settled-judged z s (place-of h) _))
 refusal-unchanged z l (Show given h c) s = unchanged _ _ _ (inl refl)
-refusal-unchanged z l (Commit h) s = unchanged _ _ _ (settled-commit z s (place-of h))
+refusal-unchanged z l (Commit h) s = unchanged _ _ _ (settled-judged z s (place-of h) _)
 refusal-unchanged z l (GiveUp h) s = unchanged _ _ _ (inl refl)
 refusal-unchanged z l (Post c value) s = unchanged _ _ _ (inl refl)
 refusal-unchanged z l (Order h) s = unchanged _ _ _ (inl refl)

@@ -3,38 +3,35 @@
 use Prim.Native.Nat.{ℕ, _<_}
 use mathlib.Core.Path.{_≡_, refl, sym, _∙_, ap, subst}
 use mathlib.Core.Logic.{_↔_, Iff·trans}
-use mathlib.Core.Bool.{true, false, _||_}
+use mathlib.Core.Bool.{true, false, cond}
 use mathlib.Core.List.{List, [], _∷_, List·Memᴰ·head, List·Memᴰ·tail}
-use lib.Dec.{eqb}
-use native.Mathlib.Omega.{arith}
-use borrow.Author.Tests.{eqb-false}
-use Rattle.basics.specs.Bytes.{AreBytes}
+use Rattle.basics.specs.Bytes.{AreBytes, same}
 use Rattle.basics.specs.Walk.{Cycle}
 use Rattle.basics.proofs.Bools.{clash, never}
 use Rattle.basics.proofs.Each.{each-none, each-cons}
 use Rattle.rules.specs.declared.Record.{Record}
 use Rattle.rules.specs.Sizes.{Size, Within}
-use Rattle.rules.specs.Books.{Books, place-at, held-status, is-held, read-marked, sealed}
+use Rattle.rules.specs.Books.{Books, place-at, is-held}
 use Rattle.rules.specs.Handles.{place-of}
 use Rattle.rules.specs.Judging.{has-cycle}
-use Rattle.rules.specs.Daylog.{judged-read-kind, commit-kind, read-conflict-kind, commit-conflict-kind, kind-starts, kind-judged-read, no-value}
+use Rattle.rules.specs.Daylog.{kind-conflict, kind-judged-read, kind-judged, kind-has-value, no-value}
 use Rattle.rules.specs.State.{State, refused, recorded}
-use Rattle.rules.specs.Steps.{record-at, number-of, read-books, commit-books, turned-back, open-rule, begin-of, write-of, own-read-of, granted-read-of, show-of, granted-commit-of, give-up-of, post-of, order-of, close-of}
-use Rattle.rules.specs.Calls.{Call, Lending}
-use Rattle.rules.specs.Kept.{LiveCaller}
+use Rattle.rules.specs.Steps.{record-at, Judged, books-granted, granted-of, turned-back, open-rule, begin-of, write-of, own-read-of, show-of, give-up-of, post-of, order-of, close-of}
+use Rattle.rules.specs.Calls.{Call, Lending, owns, IsJudged}
 use Rattle.rules.specs.Run.{Machine, lends, outcome, new-day, moved-on, after-call, played}
 use Rattle.rules.specs.Layout.{walks, EachRecord}
 use Rattle.rules.specs.Day.{events, event, is-transaction, whose}
 use Rattle.rules.specs.Runs.{Starts, value-taken, InBytes, ran, Reached, DayPair}
-use Rattle.rules.specs.History.{as-granted-read, as-granted-commit}
+use Rattle.rules.specs.History.{as-granted}
 use Rattle.rules.proofs.CellsWritten.{caller-whose}
 use Rattle.rules.proofs.Day.{who-transaction}
-use Rattle.rules.proofs.EachCall.{EachOutcome, each-call}
+use Rattle.rules.proofs.EachCall.{AskedOf, EachOutcome, each-call}
 use Rattle.rules.proofs.Explained.{Explained, explained-new, explained-more}
 use Rattle.rules.proofs.Handles.{place-of-below}
+use Rattle.rules.proofs.JudgedStep.{allowed, frees-only, JudgedStep, judged-step}
 use Rattle.rules.proofs.Judging.{given-orders}
 use Rattle.rules.proofs.Mirror.{Mirrored, Valued}
-use Rattle.rules.proofs.Mirrored.{mirrored-new, mirrored-read, mirrored-commit, mirrored-each}
+use Rattle.rules.proofs.Mirrored.{mirrored-new, mirrored-judged, mirrored-each}
 use Rattle.rules.proofs.Shape.{place-at-same}
 use Rattle.rules.proofs.Valued.{valued-new, valued-each}
 use Rattle.rules.proofs.Verdicts.{cycle-mirrored}
@@ -51,11 +48,9 @@ pub record Cyclic (z : Size) (earlier : List Record) (r : Record) : Type 0 where
   pub known : is-transaction (events (r ∷ earlier)) (whose earlier r) ≡ true
   pub cycle : CycleWith z earlier r
 
--- a record that turns its transaction back had to: granted, whatever the value of a read, it would be cyclic
+-- a record that turns its transaction back had to: granted, with whatever value, it would be cyclic
 abbrev Rightly : Size → List Record → Record → Type 0
-Rightly z earlier r =
-    (r .kind ≡ read-conflict-kind → (value : List ℕ) → Cyclic z earlier (as-granted-read r value))
-    × (r .kind ≡ commit-conflict-kind → Cyclic z earlier (as-granted-commit r))
+Rightly z earlier r = kind-conflict (r .kind) ≡ true → (value : List ℕ) → Cyclic z earlier (as-granted r value)
 
 -- ---- what is kept
 
@@ -69,9 +64,9 @@ pub record Kept (z : Size) (m : Machine) : Type 0 where
 
 module _ (z : Size) (day : List Record) where
   -- books that mirror the log with a record, and hold its transaction at a place, have the verdict of the log there
-  judged-says : (b : Books) (r : Record) (i : ℕ) → Mirrored z b (r ∷ day) → i < z .places → is-held (place-at b i) ≡ true
+  held-says : (b : Books) (r : Record) (i : ℕ) → Mirrored z b (r ∷ day) → i < z .places → is-held (place-at b i) ≡ true
       → whose day r ≡ place-at b i .begin → (has-cycle z b i ≡ true) ↔ CycleWith z day r
-  judged-says b r i mirror there held named =
+  held-says b r i mirror there held named =
       rw named (Iff·trans (given-orders z b i .cycle-told) (cycle-mirrored z b (r ∷ day) mirror i there held))
 
   -- with a cycle the record is cyclic
@@ -84,49 +79,27 @@ module _ (z : Size) (m : Machine) (mirror : Mirrored z (m .state .books) (m .day
   abbrev b : Books
   b = m .state .books
 
-  -- the books as they would be if a read, or a commit, were granted: the caller's place is held by the same transaction
-  module _ (h : ℕ) (caller : LiveCaller z b h) where
+  -- the books as they would be if it were granted: the caller's place is held by the same transaction
+  module _ {h : ℕ} {j : Judged} (step : JudgedStep z (m .state) h j) where
     abbrev i : ℕ
     i = place-of h
 
-    read-place : (c : ℕ) → place-at (read-books z b i c) i ≡ read-marked (place-at b i) c (number-of b)
-    unfolding read-books
-    read-place c = place-at-same i _ (mirror .shape) (place-of-below h)
+    place-then : place-at (books-granted b i j) i ≡ j .place
+    unfolding books-granted
+    place-then = place-at-same i (j .place) (mirror .shape) (place-of-below h)
 
-    commit-place : place-at (commit-books z b i) i ≡ sealed (place-at b i) (number-of b)
-    unfolding commit-books
-    commit-place = place-at-same i _ (mirror .shape) (place-of-below h)
+    pub held-then : is-held (place-at (books-granted (m .state .books) (place-of h) j) (place-of h)) ≡ true
+    held-then = rw place-then (step .held)
 
-    pub read-held : (c : ℕ) → is-held (place-at (read-books z b i c) i) ≡ true
-    unfolding read-marked
-    read-held c = rw (read-place c) (ap held-status (caller .live))
-
-    pub read-begin : (c : ℕ) → place-at (read-books z b i c) i .begin ≡ place-at b i .begin
-    unfolding read-marked
-    read-begin c = ap (λ p. p .begin) (read-place c)
-
-    pub commit-held : is-held (place-at (commit-books z b i) i) ≡ true
-    unfolding sealed
-    commit-held = rw commit-place refl
-
-    pub commit-begin : place-at (commit-books z b i) i .begin ≡ place-at b i .begin
-    unfolding sealed
-    commit-begin = ap (λ p. p .begin) commit-place
+    pub begin-then : place-at (books-granted (m .state .books) (place-of h) j) (place-of h) .begin ≡ place-at (m .state .books) (place-of h) .begin
+    begin-then = ap (λ p. p .begin) place-then ∙ step .begin
 
     -- so their verdict is that of the log with the record
-    read-says : (c : ℕ) (value : List ℕ) → let r = record-at judged-read-kind i (place-at b i) c value in
-        Mirrored z (read-books z b i c) (r ∷ m .day) → (has-cycle z (read-books z b i c) i ≡ true) ↔ CycleWith z (m .day) r
-    unfolding kind-starts
-    read-says c value then =
-        judged-says z (m .day) (read-books z b i c) _ i then (caller .place) (read-held c)
-        (caller-whose z m mirror h caller judged-read-kind c value refl ∙ sym (read-begin c))
-
-    commit-says : let r = record-at commit-kind i (place-at b i) 0 no-value in
-        Mirrored z (commit-books z b i) (r ∷ m .day) → (has-cycle z (commit-books z b i) i ≡ true) ↔ CycleWith z (m .day) r
-    unfolding kind-starts
-    commit-says then =
-        judged-says z (m .day) (commit-books z b i) _ i then (caller .place) commit-held
-        (caller-whose z m mirror h caller commit-kind 0 no-value refl ∙ sym commit-begin)
+    judged-says : (value : List ℕ) → let r = record-at (j .kind) i (place-at b i) (j .cell) value in
+        Mirrored z (books-granted b i j) (r ∷ m .day) → (has-cycle z (books-granted b i j) i ≡ true) ↔ CycleWith z (m .day) r
+    judged-says value then =
+        held-says z (m .day) (books-granted b i j) _ i then (step .caller .place) held-then
+        (caller-whose z m mirror h (step .caller) (j .kind) (j .cell) value (step .goes-on) ∙ sym begin-then)
 
 -- ---- every call
 
@@ -139,7 +112,7 @@ module _ (z : Size) (l : Lending) (m : Machine) (w : Within z) (kept : Kept z m)
   longer t r = record { state = t; day = r ∷ m .day; opening = m .opening }
 
   adds-kept : (t : State) (r : Record) → Mirrored z (t .books) (r ∷ m .day) → Valued z (longer t r)
-      → (kind-judged-read (r .kind) || eqb (r .kind) commit-kind ≡ true → CycleWith z (m .day) r → ⊥) → Rightly z (m .day) r → Kept z (longer t r)
+      → (kind-judged (r .kind) ≡ true → CycleWith z (m .day) r → ⊥) → Rightly z (m .day) r → Kept z (longer t r)
   adds-kept t r mirror valued free rightly =
       record {
         mirror = mirror;
@@ -149,9 +122,8 @@ module _ (z : Size) (l : Lending) (m : Machine) (w : Within z) (kept : Kept z m)
       }
 
   -- one that turns nobody back
-  goes-on : (r : Record) → eqb (r .kind) read-conflict-kind ≡ false → eqb (r .kind) commit-conflict-kind ≡ false → Rightly z (m .day) r
-  goes-on r read commit =
-      (λ e. absurd (eqb-false (r .kind) read-conflict-kind read e), λ e. absurd (eqb-false (r .kind) commit-conflict-kind commit e))
+  goes-on : (r : Record) → kind-conflict (r .kind) ≡ false → Rightly z (m .day) r
+  goes-on r none e = absurd (clash e none)
 
   -- a new day
   starts-kept : (t : State) → Mirrored z (new-day t .state .books) (new-day t .day) → Valued z (new-day t) → Kept z (new-day t)
@@ -165,44 +137,49 @@ module _ (z : Size) (l : Lending) (m : Machine) (w : Within z) (kept : Kept z m)
   abbrev values : EachOutcome z l s (λ c o. AreBytes (value-taken c) → Valued z (after-call m o))
   values = valued-each z l m w (kept .mirror) (kept .valued)
 
+  -- a judged call: granted it has no cycle, and turned back, with whatever value, it would have one
+  module _ {c : Call} {h : ℕ} {j : Judged} (judged : IsJudged z (owns (s .books)) s c h j) (asked : AskedOf z l s c) where
+    abbrev step : JudgedStep z s h j
+    step = judged-step z l s judged asked
+
+    no-cycle : (value : List ℕ) → let r = record-at (j .kind) (place-of h) (place-at (s .books) (place-of h)) (j .cell) value in
+        Mirrored z (books-granted (s .books) (place-of h) j) (r ∷ m .day) → has-cycle z (books-granted (s .books) (place-of h) j) (place-of h) ≡ false
+        → CycleWith z (m .day) r → ⊥
+    no-cycle value then free cycle = clash (judged-says z m (kept .mirror) step value then .1 cycle) free
+
+    rightly-back : has-cycle z (books-granted (s .books) (place-of h) j) (place-of h) ≡ true
+        → Rightly z (m .day) (record-at (j .back) (place-of h) (place-at (s .books) (place-of h)) (j .cell) no-value)
+    unfolding same
+    rightly-back cycle e value =
+        let i = place-of h in
+        let p = place-at (s .books) i in
+        let some = cond (kind-has-value (j .kind)) value no-value in
+        let then = mirrored-judged z l m w (kept .mirror) judged asked some (allowed (kind-has-value (j .kind)) _ (λ none. rw none refl)) in
+        subst (λ (k : ℕ). Cyclic z (m .day) (record-at k i p (j .cell) (cond (kind-has-value k) value no-value))) (sym (step .as-granted))
+        (cyclic z (m .day) _ _ then (judged-says z m (kept .mirror) step some then .0 cycle))
+
   -- what a call leaves is kept, if the value that it takes is in bytes
   kept-each : EachOutcome z l s (λ c o. AreBytes (value-taken c) → Kept z (after-call m o))
-  unfolding after-call moved-on refused open-rule begin-of write-of own-read-of granted-read-of show-of granted-commit-of turned-back give-up-of post-of order-of close-of recorded kind-judged-read
+  unfolding after-call moved-on refused open-rule begin-of write-of own-read-of granted-of show-of turned-back give-up-of post-of order-of close-of recorded kind-judged-read kind-judged
   kept-each =
       record {
         on-refused = λ c n k j bytes. kept;
         on-open = λ bytes. starts-kept _ (mirrors .on-open) (values .on-open bytes);
-        on-begin = λ asked bytes. adds-kept _ _ (mirrors .on-begin asked) (values .on-begin asked bytes) never (goes-on _ refl refl);
+        on-begin = λ asked bytes. adds-kept _ _ (mirrors .on-begin asked) (values .on-begin asked bytes) never (goes-on _ refl);
         on-write = λ h c value asked bytes.
-            adds-kept _ _ (mirrors .on-write h c value asked) (values .on-write h c value asked bytes) never (goes-on _ refl refl);
+            adds-kept _ _ (mirrors .on-write h c value asked) (values .on-write h c value asked bytes) never (goes-on _ refl);
         on-own-read = λ h c asked own bytes.
-            adds-kept _ _ (mirrors .on-own-read h c asked own) (values .on-own-read h c asked own bytes) never (goes-on _ refl refl);
-        on-read = λ h c asked own free bytes.
-            let then = mirrors .on-read h c asked own free in
-            adds-kept _ _ then (values .on-read h c asked own free bytes)
-            (λ e cycle. clash (read-says z m (kept .mirror) h (asked .caller) c _ then .1 cycle) free) (goes-on _ refl refl);
-        on-read-back = λ h c asked own cycle bytes.
-            adds-kept _ _ (mirrors .on-read-back h c asked own cycle) (values .on-read-back h c asked own cycle bytes) never (
-              λ e value.
-                  let then = mirrored-read z l m w (kept .mirror) h c value asked own in
-                  cyclic z (m .day) _ _ then (read-says z m (kept .mirror) h (asked .caller) c value then .0 cycle),
-              λ e. absurd (omega arith),
-            );
+            adds-kept _ _ (mirrors .on-own-read h c asked own) (values .on-own-read h c asked own bytes) never (goes-on _ refl);
+        on-judged = λ judged asked free bytes.
+            let then = mirrors .on-judged judged asked free in
+            adds-kept _ _ then (values .on-judged judged asked free bytes) (λ e. no-cycle judged asked _ then free) (goes-on _ (step judged asked .no-conflict));
+        on-turned-back = λ judged asked cycle bytes.
+            adds-kept _ _ (mirrors .on-turned-back judged asked cycle) (values .on-turned-back judged asked cycle bytes)
+            (λ e. absurd (clash e (frees-only _ (step judged asked .frees) .judged))) (rightly-back judged asked cycle);
         on-show = λ given h c asked bytes. kept;
-        on-commit = λ h asked free bytes.
-            let then = mirrors .on-commit h asked free in
-            adds-kept _ _ then (values .on-commit h asked free bytes)
-            (λ e cycle. clash (commit-says z m (kept .mirror) h (asked .caller) then .1 cycle) free) (goes-on _ refl refl);
-        on-commit-back = λ h asked cycle bytes.
-            adds-kept _ _ (mirrors .on-commit-back h asked cycle) (values .on-commit-back h asked cycle bytes) never (
-              λ e. absurd (omega arith),
-              λ e.
-                  let then = mirrored-commit z l m w (kept .mirror) h asked in
-                  cyclic z (m .day) _ _ then (commit-says z m (kept .mirror) h (asked .caller) then .0 cycle),
-            );
-        on-give-up = λ h asked bytes. adds-kept _ _ (mirrors .on-give-up h asked) (values .on-give-up h asked bytes) never (goes-on _ refl refl);
+        on-give-up = λ h asked bytes. adds-kept _ _ (mirrors .on-give-up h asked) (values .on-give-up h asked bytes) never (goes-on _ refl);
         on-post = λ c value asked bytes.
-            adds-kept _ _ (mirrors .on-post c value asked) (values .on-post c value asked bytes) never (goes-on _ refl refl);
+            adds-kept _ _ (mirrors .on-post c value asked) (values .on-post c value asked bytes) never (goes-on _ refl);
         on-order = λ h asked bytes. kept;
         on-close = λ asked bytes. starts-kept _ (mirrors .on-close asked) (values .on-close asked bytes);
       }

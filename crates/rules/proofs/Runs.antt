@@ -19,25 +19,25 @@ use Rattle.rules.specs.Handles.{place-of, is-stale}
 use Rattle.rules.specs.Judging.{HasCycle, has-cycle, given-order}
 use Rattle.rules.specs.Numbers.{granted, conflict, no-order, first-reason}
 use Rattle.rules.specs.State.{Outcome, buffer-after, recorded, refused, unless-refused}
-use Rattle.rules.specs.Calls.{Read, Commit, Order, issued}
-use Rattle.rules.specs.Steps.{soundness-reason, granted-read-of, granted-commit-of, order-reasons, order-of, order-rule}
+use Rattle.rules.specs.Calls.{Order, issued}
+use Rattle.rules.specs.Steps.{soundness-reason, granted-of, order-reasons, order-of, order-rule}
 use Rattle.rules.specs.Kept.{LiveCaller}
 use Rattle.rules.specs.Run.{Machine, lends, outcome, new-day, moved-on, after-call}
 use Rattle.rules.specs.Day.{events, is-transaction}
 use Rattle.rules.specs.Checker.{accepted, log-events, checked}
-use Rattle.rules.specs.Runs.{ran, told-run, RunsReadBack, holder, checked-on, GivesOrders, OrdersAccepted, DayPair, read-granted, commit-granted, MeetsNone, reads-own, ConflictExactly, ConflictsMet}
+use Rattle.rules.specs.Runs.{ran, told-run, RunsReadBack, holder, checked-on, GivesOrders, OrdersAccepted, DayPair, record-granted, MeetsNone, ConflictExactly, MeetsConflict, ConflictsMet}
 use Rattle.rules.proofs.Asked.{held-asked, order-asked}
 use Rattle.rules.proofs.EachCall.{refused-or}
 use Rattle.rules.proofs.Explaining.{accepted-of, cycle-no-list}
-use Rattle.rules.proofs.Handled.{read-met, commit-met, read-verdict, commit-verdict, read-granted-is, commit-granted-is, holder-is, reads-own-is}
+use Rattle.rules.proofs.Handled.{record-of-live, judged-met, judged-verdict, judged-told, holder-is}
+use Rattle.rules.proofs.JudgedStep.{judged-step}
 use Rattle.rules.proofs.Judging.{given-orders}
 use Rattle.rules.proofs.Mirror.{Mirrored, Valued}
-use Rattle.rules.proofs.Mirrored.{mirrored-read, mirrored-commit}
-use Rattle.rules.proofs.Running.{Kept, kept-new, kept-ran, reached-kept, read-held, read-begin, commit-held, commit-begin}
+use Rattle.rules.proofs.Mirrored.{mirrored-judged}
+use Rattle.rules.proofs.Running.{Kept, kept-new, kept-ran, reached-kept, held-then, begin-then}
 use Rattle.rules.proofs.Sound.{sound-says}
 use Rattle.rules.proofs.Told.{told-run-right, closes-right, stands-right}
-use Rattle.rules.proofs.CellsWritten.{valued-commit}
-use Rattle.rules.proofs.CellsRead.{valued-read}
+use Rattle.rules.proofs.Valued.{valued-judged}
 use Rattle.rules.proofs.PairsMirrored.{transaction-mirrored}
 use Rattle.rules.proofs.Verdicts.{cycle-mirrored, order-lists, order-keeps}
 
@@ -145,7 +145,7 @@ module _ (z : Size) (m : Machine) (w : Within z) (kept : Kept z m) where
 
 -- a judged call weighed with the record that it would add: the machine n is the one that it would leave
 module _ (z : Size) (i : ℕ) (o : Outcome) (n : Machine) (mirror : Mirrored z (n .state .books) (n .day)) (valued : Valued z n) (there : i < z .places)
-    (held : is-held (place-at (n .state .books) i) ≡ true) (meets : MeetsNone o) (verdict : (o .number ≡ conflict) ↔ HasCycle z (n .state .books) i) where
+    (held : is-held (place-at (n .state .books) i) ≡ true) (meets : MeetsNone (o .number)) (verdict : (o .number ≡ conflict) ↔ HasCycle z (n .state .books) i) where
   -- the transaction
   abbrev who : ℕ
   who = place-at (n .state .books) i .begin
@@ -172,7 +172,7 @@ module _ (z : Size) (m : Machine) (w : Within z) (kept : Kept z m) where
   -- told of the log with the record: the record is that of a granted call, and the transaction the one at the handle's place
   exactly : (h : ℕ) (r : Record) (o : Outcome) (n : Machine) → n .day ≡ r ∷ m .day → n .opening ≡ m .opening → Mirrored z (n .state .books) (n .day) → Valued z n
       → place-of h < z .places → is-held (place-at (n .state .books) (place-of h)) ≡ true → holder (m .day) h ≡ place-at (n .state .books) (place-of h) .begin
-      → MeetsNone o → (o .number ≡ conflict) ↔ HasCycle z (n .state .books) (place-of h) → ConflictExactly z m h r o
+      → MeetsNone (o .number) → (o .number ≡ conflict) ↔ HasCycle z (n .state .books) (place-of h) → ConflictExactly z m h r o
   exactly h r o n day opening mirror valued there held named meets verdict =
       record {
         by-cycle = rw (← day, named) (weighed-cycle z (place-of h) o n mirror valued there held meets verdict);
@@ -183,29 +183,19 @@ module _ (z : Size) (m : Machine) (w : Within z) (kept : Kept z m) where
   caller-is : (h : ℕ) → LiveCaller z (m .state .books) h → holder (m .day) h ≡ place-at (m .state .books) (place-of h) .begin
   caller-is h caller = holder-is z m (kept .mirror) h (caller .place) (ap held-status (caller .live))
 
-  pub conflict-at-read : (h c : ℕ) → MeetsNone (outcome z (Read h c) m) → reads-own (m .day) h c ≡ false
-      → ConflictExactly z m h (read-granted m h c) (outcome z (Read h c) m)
-  unfolding after-call moved-on granted-read-of recorded
-  conflict-at-read h c meets other =
+  pub conflict-met : MeetsConflict z m
+  unfolding after-call moved-on granted-of recorded
+  conflict-met c h j told meets =
       let mirror = kept .mirror in
       let l = lends z m in
-      let asked = read-met z m h c meets in
-      let caller = asked .caller in
-      let own = sym (reads-own-is z m mirror h c caller (asked .cell)) ∙ other in
-      exactly h (read-granted m h c) _ (after-call m (granted-read-of z (m .state) (place-of h) c)) (ap (λ r. r ∷ m .day) (sym (read-granted-is z m h c caller))) refl
-      (mirrored-read z l m w mirror h c _ asked own) (valued-read z l m w mirror (kept .valued) h c asked) (caller .place) (read-held z m mirror h caller c)
-      (caller-is h caller ∙ sym (read-begin z m mirror h caller c)) meets (read-verdict z m mirror h c meets other)
-
-  pub conflict-at-commit : (h : ℕ) → MeetsNone (outcome z (Commit h) m) → ConflictExactly z m h (commit-granted h) (outcome z (Commit h) m)
-  unfolding after-call moved-on granted-commit-of recorded
-  conflict-at-commit h meets =
-      let mirror = kept .mirror in
-      let l = lends z m in
-      let asked = commit-met z m h meets in
-      let caller = asked .caller in
-      exactly h (commit-granted h) _ (after-call m (granted-commit-of z (m .state) (place-of h))) (ap (λ r. r ∷ m .day) (sym (commit-granted-is z m h caller))) refl
-      (mirrored-commit z l m w mirror h asked) (valued-commit z l m w mirror (kept .valued) h asked) (caller .place) (commit-held z m mirror h caller)
-      (caller-is h caller ∙ sym (commit-begin z m mirror h caller)) meets (commit-verdict z m h meets)
+      let judged = judged-told z m mirror told meets in
+      let asked = judged-met z m judged meets in
+      let step = judged-step z l (m .state) judged asked in
+      let caller = step .caller in
+      exactly h (record-granted h j) _ (after-call m (granted-of (m .state) (place-of h) j))
+      (ap (λ r. r ∷ m .day) (sym (record-of-live z (m .state .books) h caller (j .kind) (j .cell) (j .value)))) refl
+      (mirrored-judged z l m w mirror judged asked (j .value) (step .value-right)) (valued-judged z l m w mirror (kept .valued) judged asked) (caller .place)
+      (held-then z m mirror step) (caller-is h caller ∙ sym (begin-then z m mirror step)) meets (judged-verdict z m judged meets)
 
 -- ---- every machine that a run has come to
 
@@ -213,6 +203,4 @@ pub orders-accepted : OrdersAccepted
 orders-accepted z m w r = orders-given z m w (reached-kept z m w r)
 
 pub conflicts-met : ConflictsMet
-conflicts-met z m w r =
-    let kept = reached-kept z m w r in
-    record { at-read = conflict-at-read z m w kept; at-commit = conflict-at-commit z m w kept }
+conflicts-met z m w r = conflict-met z m w (reached-kept z m w r)

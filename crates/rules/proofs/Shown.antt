@@ -12,19 +12,20 @@ use Rattle.rules.specs.Sizes.{Size, Within, table-bytes, drafts-bytes, h
 use Rattle.rules.specs.Books.{Books, Shaped, place-at, wrote, read-marked, with-record}
 use Rattle.rules.specs.Handles.{place-of, out-of-range, turn-agrees, is-stale, is-ended}
 use Rattle.rules.specs.Sound.{Sound}
-use Rattle.rules.specs.Judging.{has-cycle}
 use Rattle.rules.specs.Cells.{cell-of, draft-of}
 use Rattle.rules.specs.Numbers.{granted, first-reason}
 use Rattle.rules.specs.State.{State, Outcome, shown-bytes, shown-draft, shown-cell, refused, recorded, unless-refused}
-use Rattle.rules.specs.Steps.{number-of, meets-conflict, weighed, turned-back, read-books, own-read-of, granted-read-of, judged-read-of, read-of, read-rule, soundness-reason, handle-reasons, cell-reason, handle-cell-reasons, show-reasons, show-rule, show-of}
-use Rattle.rules.specs.Calls.{Show, Lending, issued}
+use Rattle.rules.specs.Steps.{number-of, books-granted, granted-of, turned-back, own-read-of, judged-read, read-of, read-rule, soundness-reason, handle-reasons, cell-reason, handle-cell-reasons, show-reasons, show-rule, show-of}
+use Rattle.rules.specs.Calls.{Show, Lending, issued, read-judged}
 use Rattle.rules.specs.Kept.{LiveCaller, ReadAsked, ShowAsked, ShowsRecorded, ShownIsRecorded}
 use Rattle.rules.proofs.Asked.{read-asked}
 use Rattle.rules.proofs.EachCall.{EachOutcome, refused-or, one-of}
 use Rattle.rules.proofs.Handles.{place-of-below, ended-is-committed}
+use Rattle.rules.proofs.JudgedStep.{judged-step}
+use Rattle.rules.proofs.Reasons.{either-judged}
 use Rattle.rules.proofs.Shape.{place-at-same}
 use Rattle.rules.proofs.Sound.{sound-says}
-use Rattle.rules.proofs.SoundAfter.{sound-each, sound-read}
+use Rattle.rules.proofs.SoundCalls.{sound-judged, sound-each}
 
 -- ---- no reason applies
 
@@ -96,12 +97,12 @@ module _ (z : Size) (l : Lending) (h c : ℕ) (s : State) (w : Within z) (shape 
       record { recorded = _; added = refl; value = ap (shown-bytes (s .drafts) (s .table)) first ∙ rw own }
 
   -- any other cell: the table's value is recorded and shown
-  judged-shown : wrote p c ≡ false → ShowsRecorded z l h c (granted-read-of z s i c)
-  unfolding granted-read-of read-books recorded read-marked shown-bytes cell-of
+  judged-shown : wrote p c ≡ false → ShowsRecorded z l h c (granted-of s i (judged-read z s i c))
+  unfolding granted-of books-granted recorded read-marked shown-bytes cell-of
   judged-shown other =
-      let o = granted-read-of z s i c in
+      let o = granted-of s i (judged-read z s i c) in
       let here = place-at-same i (read-marked p c (number-of (s .books))) shape (place-of-below h) in
-      let good = sound-read z l s shape w (asked .caller .books) h c asked in
+      let good = sound-judged z l s shape w (asked .caller .books) (judged-step z l s (read-judged h c other) asked) in
       let first = shows z l h c (o .after) (still-asked (o .after .books) good (ap (λ q. q .status) here) (ap (λ q. q .turn) here)) in
       record { recorded = _; added = refl; value = ap (shown-bytes (s .drafts) (s .table)) first ∙ rw (here, other) }
 
@@ -111,11 +112,10 @@ IfGranted z l h c o = o .number ≡ granted → ShowsRecorded z l h c o
 
 read-shown : (z : Size) (l : Lending) (h c : ℕ) (s : State) → Within z → Shaped (s .books)
     → ReadAsked z (length (s .table)) (length (s .drafts)) (l .log) (s .books) h c → IfGranted z l h c (read-of z s (place-of h) c)
-unfolding read-of judged-read-of weighed meets-conflict turned-back recorded
+unfolding read-of turned-back recorded
 read-shown z l h c s w shape asked =
     one-of (IfGranted z l h c) (wrote (place-at (s .books) (place-of h)) c) _ _ (λ own e. own-shown z l h c s w shape asked own) λ other.
-    one-of (IfGranted z l h c) (has-cycle z (read-books z (s .books) (place-of h) c) (place-of h)) _ _ (λ t e. absurd (omega arith))
-    (λ f e. judged-shown z l h c s w shape asked other)
+    either-judged (IfGranted z l h c) z s (place-of h) _ (λ e. absurd (omega arith)) (λ e. judged-shown z l h c s w shape asked other)
 
 pub shown-is-recorded : ShownIsRecorded
 unfolding issued read-rule refused

@@ -1,10 +1,10 @@
--- Every call keeps the books sound and keeps their shape. Rests on the shape of changed places, on the clauses of soundness, on the step of one
--- record and on what is asked of each call. Assumes nothing.
+-- Each change of a place fits, and books stay sound with one place changed and one record more. Rests on the shape of changed places, on the clauses
+-- of soundness and on the step of one record. Assumes nothing.
 use Prim.Native.Nat.{ℕ, _+_, _≤_, _<_}
 use mathlib.Core.Path.{_≡_, refl, sym, subst}
 use mathlib.Core.Logic.{_⊎_, inl, inr, ⊎-elim}
 use mathlib.Core.Bool.{true}
-use lib.ListN.{length, getD}
+use lib.ListN.{getD}
 use lib.Seq.{getD-set-same, getD-set-other}
 use lib.Dec.{eqb}
 use native.Mathlib.Omega.{arith}
@@ -13,20 +13,12 @@ use Rattle.basics.proofs.Bools.{split, equal-or-not, never}
 use Rattle.basics.proofs.Elements.{getD-replicate-same}
 use Rattle.rules.specs.declared.Place.{Place}
 use Rattle.rules.specs.Sizes.{Size, Within, width, most-records}
-use Rattle.rules.specs.Books.{Books, Shaped, place-at, is-held, first-read, last-read, first-kept, no-reads, freed, begun, posted, marked, read-marked, sealed, with-place, with-record, lowest-free, room-taken}
+use Rattle.rules.specs.Books.{Books, Shaped, place-at, is-held, first-read, last-read, first-kept, no-reads, freed, begun, posted, marked, read-marked, sealed, with-place, with-record, room-taken}
 use Rattle.rules.specs.Sound.{SoundPlace, Sound}
-use Rattle.rules.specs.Handles.{place-of}
-use Rattle.rules.specs.State.{State, refused, recorded}
-use Rattle.rules.specs.Steps.{turned-back, read-books, commit-books, own-read-of, granted-read-of, granted-commit-of, open-rule, begin-of, write-of, show-of, give-up-of, post-of, order-of, close-of}
-use Rattle.rules.specs.Calls.{Call, Lending, issued}
-use Rattle.rules.specs.Kept.{LiveCaller, ReadAsked, CommitAsked, SoundnessKept}
-use Rattle.rules.proofs.Asked.{lowest-is-free}
-use Rattle.rules.proofs.EachCall.{EachOutcome, each-call}
-use Rattle.rules.proofs.Handles.{place-of-below}
-use Rattle.rules.proofs.Shape.{Wide, wide-freed, wide-begun, wide-posted, wide-marked, wide-read-marked, wide-sealed, place-at-same, place-at-other, shaped-wide, shaped-opened, shaped-closed, shaped-with-record, shaped-with-place}
-use Rattle.rules.proofs.Sound.{ReadsSound, HeldSound, clear-place, held-place, held-of-place, held-says, sound-says}
+use Rattle.rules.proofs.Shape.{Wide, place-at-same, place-at-other}
+use Rattle.rules.proofs.Sound.{ReadsSound, HeldSound, clear-place, held-place, held-of-place, held-says}
 use Rattle.rules.proofs.SoundStep.{Fits, sound-after}
-use Rattle.rules.proofs.SoundKept.{blank-freed, sound-opened, sound-closed}
+use Rattle.rules.proofs.SoundKept.{blank-freed}
 
 -- ---- each change of a place
 
@@ -185,90 +177,3 @@ module _ (z : Size) (b : Books) (i : ℕ) (s : Sound z b) (there : i < z .places
   pub sound-with-record : Fits z b (place-at b i) (place-at b i) → Sound z (with-record b)
   unfolding with-record
   sound-with-record f = sound-after z b (with-record b) i there s (λ j h other. refl) refl f
-
-module _ (z : Size) (l : Lending) (s : State) (shape : Shaped (s .books)) where
-  abbrev b : Books
-  b = s .books
-
-  -- the place of a handle is in the arrays
-  wide : (h : ℕ) → Wide (place-at b (place-of h))
-  wide h = shaped-wide (place-of h) shape (place-of-below h)
-
-  -- every outcome leaves the books in shape
-  pub shape-each : EachOutcome z l s (λ c o. Shaped (o .after .books))
-  unfolding refused open-rule begin-of write-of own-read-of granted-read-of read-books show-of granted-commit-of commit-books turned-back give-up-of post-of order-of close-of recorded
-  shape-each =
-      record {
-        on-refused = λ c n k j. shape;
-        on-open = shaped-opened;
-        on-begin = λ asked. shaped-with-place _ (wide-begun _ _) shape;
-        on-write = λ h c value asked. shaped-with-place _ (wide-marked c (wide h)) shape;
-        on-own-read = λ h c asked own. shaped-with-record shape;
-        on-read = λ h c asked own free. shaped-with-place _ (wide-read-marked c _ (wide h)) shape;
-        on-show = λ given h c asked. shape;
-        on-commit = λ h asked free. shaped-with-place _ (wide-sealed _ (wide h)) shape;
-        on-read-back = λ h c asked own cycle. shaped-with-place _ (wide-freed _) shape;
-        on-commit-back = λ h asked cycle. shaped-with-place _ (wide-freed _) shape;
-        on-give-up = λ h asked. shaped-with-place _ (wide-freed _) shape;
-        on-post = λ c value asked. shaped-with-place _ (wide-posted _ c _) shape;
-        on-order = λ h asked. shape;
-        on-close = λ asked. shaped-closed shape;
-      }
-
-  -- and sound, where they were
-  module _ (w : Within z) (good : Sound z (s .books)) where
-    -- the changed place of a live caller, and of the lowest free one
-    caller-changed : (h : ℕ) (p : Place) → LiveCaller z b h
-        → (SoundPlace z (b .records) (place-at b (place-of h)) → Fits z b (place-at b (place-of h)) p) → Sound z (with-place b (place-of h) p)
-    caller-changed h p caller f = sound-with-place z b (place-of h) good (caller .place) p w shape (f (good .each (place-of h) (caller .place)))
-
-    lowest-changed : (p : Place) → lowest-free z b < z .places
-        → (place-at b (lowest-free z b) .status ≡ 0 → Fits z b (place-at b (lowest-free z b)) p) → Sound z (with-place b (lowest-free z b) p)
-    lowest-changed p there f = sound-with-place z b (lowest-free z b) good there p w shape (f (lowest-is-free z b there))
-
-    -- so are the books as they would be if a read, or a commit, were granted
-    pub sound-read : (h c : ℕ) → ReadAsked z (length (s .table)) (length (s .drafts)) (l .log) b h c → Sound z (read-books z b (place-of h) c)
-    unfolding read-books
-    sound-read h c asked =
-        let inside : c < width = omega (arith, w .cells, asked .cell) in
-        caller-changed h _ (asked .caller) (λ p. fits-read-marked z b _ p (asked .caller .live) c (wide h) inside (asked .room))
-
-    pub sound-commit : (h : ℕ) → CommitAsked z (length (s .table)) (length (s .drafts)) (l .log) b h → Sound z (commit-books z b (place-of h))
-    unfolding commit-books
-    sound-commit h asked = caller-changed h _ (asked .caller) (λ p. fits-sealed z b _ p (asked .caller .live) (good .room))
-
-    pub sound-each : EachOutcome z l s (λ c o. Sound z (o .after .books))
-    unfolding refused open-rule begin-of write-of own-read-of granted-read-of read-books show-of granted-commit-of commit-books turned-back give-up-of post-of order-of close-of recorded
-    sound-each =
-        record {
-          on-refused = λ c n k j. good;
-          on-open = sound-says z _ .0 (sound-opened z);
-          on-begin = λ asked. lowest-changed _ (asked .free) (λ free. fits-begun z b _ free (asked .room));
-          on-write = λ h c value asked. caller-changed h _ (asked .caller) (λ p. fits-marked z b _ p (asked .caller .live) c (asked .room));
-          on-own-read = λ h c asked own.
-              let there = asked .caller .place in
-              sound-with-record z b (place-of h) good there (fits-same z b _ (good .each (place-of h) there) (asked .caller .live) (asked .room));
-          on-read = λ h c asked own free. sound-read h c asked;
-          on-show = λ given h c asked. good;
-          on-commit = λ h asked free. sound-commit h asked;
-          on-read-back = λ h c asked own cycle. caller-changed h _ (asked .caller) (λ p. fits-freed z b _ p (asked .caller .live) (good .room));
-          on-commit-back = λ h asked cycle. caller-changed h _ (asked .caller) (λ p. fits-freed z b _ p (asked .caller .live) (good .room));
-          on-give-up = λ h asked. caller-changed h _ (asked .caller) (λ p. fits-freed z b _ p (asked .caller .live) (good .room));
-          on-post = λ c value asked. lowest-changed _ (asked .free) (λ free. fits-posted z b _ free c (asked .room));
-          on-order = λ h asked. good;
-          on-close = λ asked. sound-says z _ .0 (sound-closed z b);
-        }
-
-pub shape-kept : (z : Size) (l : Lending) (c : Call) (s : State) → Shaped (s .books) → Shaped (issued z l c s .after .books)
-shape-kept z l c s shape = each-call z l s _ (shape-each z l s shape) c
-
-pub sound-kept : (z : Size) (l : Lending) (c : Call) (s : State) → Within z → Shaped (s .books) → Sound z (s .books)
-    → Sound z (issued z l c s .after .books)
-sound-kept z l c s w shape good = each-call z l s _ (sound-each z l s shape w good) c
-
-pub soundness-kept : SoundnessKept
-soundness-kept =
-    record {
-      shape = shape-kept;
-      soundness = λ z l c s w shape e. sound-says z _ .1 (sound-kept z l c s w shape (sound-says z (s .books) .0 e));
-    }

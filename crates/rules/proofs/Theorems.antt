@@ -23,7 +23,7 @@ use Rattle.rules.proofs.Reasons
 use Rattle.rules.proofs.Runs
 use Rattle.rules.proofs.Shown
 use Rattle.rules.proofs.Sound
-use Rattle.rules.proofs.SoundAfter
+use Rattle.rules.proofs.SoundCalls
 use Rattle.rules.proofs.Trials
 use Rattle.rules.proofs.Unlent
 
@@ -71,7 +71,7 @@ pub reasons-asked : ReasonsAsked
 reasons-asked = Asked.reasons-asked
 
 pub soundness-kept : SoundnessKept
-soundness-kept = SoundAfter.soundness-kept
+soundness-kept = SoundCalls.soundness-kept
 
 pub shown-is-recorded : ShownIsRecorded
 shown-is-recorded = Shown.shown-is-recorded

@@ -14,14 +14,14 @@ use Rattle.rules.specs.Handles.{handle-of, place-of}
 use Rattle.rules.specs.Numbers.{granted, conflict}
 use Rattle.rules.specs.Daylog.{AllProper, begin-kind, judged-read-kind, own-read-kind, write-kind, commit-kind, give-up-kind, read-conflict-kind, commit-conflict-kind, post-kind, no-value, trailer, commit-total, day-bytes, standing, records-in, day-of}
 use Rattle.rules.specs.State.{State, Outcome, Entry, nothing, adds, closes, opens, entry-bytes, refused, recorded}
-use Rattle.rules.specs.Steps.{record-at, turned-back, own-read-of, granted-read-of, granted-commit-of, open-rule, begin-of, write-of, show-of, give-up-of, post-of, order-of, close-of, close-rule}
-use Rattle.rules.specs.Calls.{Call, Open, Begin, Write, Read, Show, Commit, GiveUp, Post, Order, Close, issued}
+use Rattle.rules.specs.Steps.{record-at, Judged, granted-of, turned-back, own-read-of, judged-read, open-rule, begin-of, write-of, show-of, give-up-of, post-of, order-of, close-of, close-rule}
+use Rattle.rules.specs.Calls.{Call, Open, Begin, Write, Read, Show, Commit, GiveUp, Post, Order, Close, issued, handed-on, owns, IsJudged, read-judged, commit-judged}
 use Rattle.rules.specs.Kept.{LiveCaller, ShowsRecorded}
 use Rattle.rules.specs.Layout.{well-laid-out}
 use Rattle.rules.specs.Run.{Machine, lends, outcome, new-day, moved-on, after-call, played}
 use Rattle.rules.specs.Runs.{ran, record-of, read-kind, told, shown-on, shown-behind, told-call, told-run}
 use Rattle.rules.proofs.Daylog.{records-in-standing, day-of-standing}
-use Rattle.rules.proofs.EachCall.{is-judged, EachOutcome, refused-or, each-call}
+use Rattle.rules.proofs.EachCall.{never-nine, AskedOf, EachOutcome, refused-or, each-call}
 use Rattle.rules.proofs.Handled.{record-of-live, reads-own-is}
 use Rattle.rules.proofs.Handles.{place-of-handle-of, turn-of-handle-of}
 use Rattle.rules.proofs.Joined.{records-counted}
@@ -74,14 +74,14 @@ module _ (z : Size) (m : Machine) (w : Within z) (mirror : Mirrored z (m .state 
   open-granted n e = ap (λ (o : Outcome). o .number) e
 
   -- a refusal other than 9 tells nothing
-  tells-refused : (c : Call) (n : ℕ) → n ≢ granted → (is-judged c ≡ true → n ≢ conflict) → TellsOwn c (refused n s)
+  tells-refused : (c : Call) (n : ℕ) → n ≢ granted → (handed-on c ≢ conflict → n ≢ conflict) → TellsOwn c (refused n s)
   unfolding told after-call moved-on refused
   tells-refused Open n k j e = absurd (k (open-granted n e))
   tells-refused Begin n k j e = rw (ne-eqb n granted k)
   tells-refused (Write h c value) n k j e = rw (ne-eqb n granted k)
-  tells-refused (Read h c) n k j e = rw (ne-eqb n granted k, ne-eqb n conflict (j refl))
+  tells-refused (Read h c) n k j e = rw (ne-eqb n granted k, ne-eqb n conflict (j never-nine))
   tells-refused (Show given h c) n k j e = refl
-  tells-refused (Commit h) n k j e = rw (ne-eqb n granted k, ne-eqb n conflict (j refl))
+  tells-refused (Commit h) n k j e = rw (ne-eqb n granted k, ne-eqb n conflict (j never-nine))
   tells-refused (GiveUp h) n k j e = rw (ne-eqb n granted k)
   tells-refused (Post c value) n k j e = rw (ne-eqb n granted k)
   tells-refused (Order h) n k j e = refl
@@ -121,11 +121,25 @@ module _ (z : Size) (m : Machine) (w : Within z) (mirror : Mirrored z (m .state 
   read-told h c caller cell kind shown value kinds e =
       rw (reads-own-is z m mirror h c caller cell, kinds, e) (live-told h caller kind c value)
 
+  -- ---- a judged call
+
+  granted-told : {c : Call} {h : ℕ} {j : Judged} → IsJudged z (owns (s .books)) s c h j → AskedOf z (lends z m) s c → TellsOwn c (granted-of s (place-of h) j)
+  unfolding told after-call moved-on granted-of recorded
+  granted-told (read-judged h c other) asked e =
+      read-told h c (asked .caller) (asked .cell) judged-read-kind _ _ (rw other) (shown-of h c (granted-of s (place-of h) (judged-read z s (place-of h) c)) _ refl refl e)
+  granted-told (commit-judged h) asked e = live-told h (asked .caller) commit-kind 0 no-value
+
+  back-told : {c : Call} {h : ℕ} {j : Judged} → IsJudged z (owns (s .books)) s c h j → AskedOf z (lends z m) s c
+      → Tells c (turned-back s (j .back) (place-of h) (j .cell))
+  unfolding told after-call moved-on turned-back recorded
+  back-told (read-judged h c other) asked = live-told h (asked .caller) read-conflict-kind c no-value
+  back-told (commit-judged h) asked = live-told h (asked .caller) commit-conflict-kind 0 no-value
+
   -- ---- every call
 
   -- each outcome of a call tells the day after it
   tells-each : EachOutcome z (lends z m) s TellsOwn
-  unfolding told after-call moved-on new-day open-rule begin-of write-of own-read-of granted-read-of turned-back show-of granted-commit-of give-up-of post-of order-of close-of recorded
+  unfolding told after-call moved-on new-day open-rule begin-of write-of own-read-of show-of give-up-of post-of order-of close-of recorded
   tells-each =
       record {
         on-refused = tells-refused;
@@ -134,12 +148,9 @@ module _ (z : Size) (m : Machine) (w : Within z) (mirror : Mirrored z (m .state 
         on-write = λ h c value asked e. live-told h (asked .caller) write-kind c value;
         on-own-read = λ h c asked own e.
             read-told h c (asked .caller) (asked .cell) own-read-kind _ _ (rw own) (shown-of h c (own-read-of z s (place-of h) c) _ refl refl e);
-        on-read = λ h c asked other free e.
-            read-told h c (asked .caller) (asked .cell) judged-read-kind _ _ (rw other) (shown-of h c (granted-read-of z s (place-of h) c) _ refl refl e);
-        on-read-back = λ h c asked other cycle e. live-told h (asked .caller) read-conflict-kind c no-value;
+        on-judged = λ judged asked free. granted-told judged asked;
+        on-turned-back = λ judged asked cycle e. back-told judged asked;
         on-show = λ given h c asked e. refl;
-        on-commit = λ h asked free e. live-told h (asked .caller) commit-kind 0 no-value;
-        on-commit-back = λ h asked cycle e. live-told h (asked .caller) commit-conflict-kind 0 no-value;
         on-give-up = λ h asked e. live-told h (asked .caller) give-up-kind 0 no-value;
         on-post = λ c value asked e. started-told post-kind _ _ c value (asked .free);
         on-order = λ h asked e. refl;

@@ -9,13 +9,12 @@ use Rattle.rules.specs.Sizes.{Size}
 use Rattle.rules.specs.Books.{place-at, wrote}
 use Rattle.rules.specs.Handles.{place-of}
 use Rattle.rules.specs.Numbers.{Reason, first-reason}
-use Rattle.rules.specs.Daylog.{read-conflict-kind, commit-conflict-kind}
 use Rattle.rules.specs.State.{State, Outcome, state-of, refused, unless-refused, recorded}
-use Rattle.rules.specs.Steps.{turned-back, own-read-of, granted-read-of, judged-read-of, granted-commit-of, judged-commit-of, open-rule, begin-rule, write-rule, read-rule, show-rule, commit-rule, give-up-rule, post-rule, order-rule, close-rule, begin-of, write-of, read-of, show-of, give-up-of, post-of, order-of, close-of}
+use Rattle.rules.specs.Steps.{Judged, granted-of, turned-back, judged-of, own-read-of, judged-read, judged-read-of, judged-commit, judged-commit-of, open-rule, begin-rule, write-rule, read-rule, show-rule, commit-rule, give-up-rule, post-rule, order-rule, close-rule, begin-of, write-of, read-of, show-of, give-up-of, post-of, order-of, close-of}
 use Rattle.rules.specs.Calls.{Call, Open, Begin, Write, Read, Show, Commit, GiveUp, Post, Order, Close, Lending, issued}
 use Rattle.rules.specs.Kept.{AsLent, NeitherLent, Unlent}
 use Rattle.rules.proofs.EachCall.{refused-or, one-of}
-use Rattle.rules.proofs.Reasons.{either-weighed}
+use Rattle.rules.proofs.Reasons.{either-judged}
 
 -- two outcomes whose parts are the same one by one
 alike : {o narrow : Outcome} → o .number ≡ narrow .number → o .answer ≡ narrow .answer → o .order ≡ narrow .order
@@ -51,27 +50,29 @@ module _ (reasons : List Reason) (s : State) (o : Outcome) where
 -- ---- each call
 
 module _ (z : Size) (s : State) where
-  -- a read leaves both buffers
-  read-leaves : (f : State → List ℕ) (i c : ℕ) → f (own-read-of z s i c .after) ≡ f s
-      → f (turned-back s read-conflict-kind i c .after) ≡ f s → f (granted-read-of z s i c .after) ≡ f s → f (read-of z s i c .after) ≡ f s
-  unfolding read-of judged-read-of
-  read-leaves f i c own back on =
-      one-of (λ o. f (o .after) ≡ f s) (wrote (place-at (s .books) i) c) _ _ (λ e. own)
-      (λ e. either-weighed (λ o. f (o .after) ≡ f s) z _ i _ _ back on)
+  -- a judged call leaves a buffer, if it would granted
+  judged-leaves : (f : State → List ℕ) (i : ℕ) (j : Judged) → f (turned-back s (j .back) i (j .cell) .after) ≡ f s → f (granted-of s i j .after) ≡ f s
+      → f (judged-of z s i j .after) ≡ f s
+  judged-leaves f i j = either-judged (λ o. f (o .after) ≡ f s) z s i j
+
+  -- a read leaves both
+  read-leaves : (f : State → List ℕ) (i c : ℕ) → f (own-read-of z s i c .after) ≡ f s → f (judged-read-of z s i c .after) ≡ f s
+      → f (read-of z s i c .after) ≡ f s
+  unfolding read-of
+  read-leaves f i c own judged = one-of (λ o. f (o .after) ≡ f s) (wrote (place-at (s .books) i) c) _ _ (λ e. own) (λ e. judged)
 
   table-after-read : (i c : ℕ) → read-of z s i c .after .table ≡ s .table
-  unfolding own-read-of turned-back granted-read-of recorded
-  table-after-read i c = read-leaves (λ x. x .table) i c refl refl refl
+  unfolding own-read-of turned-back granted-of recorded
+  table-after-read i c = read-leaves (λ x. x .table) i c refl (judged-leaves (λ x. x .table) i (judged-read z s i c) refl refl)
 
   drafts-after-read : (i c : ℕ) → read-of z s i c .after .drafts ≡ s .drafts
-  unfolding own-read-of turned-back granted-read-of recorded
-  drafts-after-read i c = read-leaves (λ x. x .drafts) i c refl refl refl
+  unfolding own-read-of turned-back granted-of recorded
+  drafts-after-read i c = read-leaves (λ x. x .drafts) i c refl (judged-leaves (λ x. x .drafts) i (judged-read z s i c) refl refl)
 
   -- a commit leaves the drafts
   drafts-after-commit : (i : ℕ) → judged-commit-of z s i .after .drafts ≡ s .drafts
-  unfolding judged-commit-of turned-back granted-commit-of recorded
-  drafts-after-commit i =
-      either-weighed (λ o. o .after .drafts ≡ s .drafts) z _ i (turned-back s commit-conflict-kind i 0) (granted-commit-of z s i) refl refl
+  unfolding turned-back granted-of recorded
+  drafts-after-commit i = judged-leaves (λ x. x .drafts) i (judged-commit z s i) refl refl
 
 pub unlent : Unlent
 unfolding refused open-rule begin-rule begin-of write-rule write-of read-rule show-rule show-of commit-rule give-up-rule give-up-of post-rule post-of order-rule order-of close-rule close-of recorded
@@ -115,18 +116,18 @@ Orderless o = o .order ≡ []
 
 -- only order gives an order
 pub orderless : (z : Size) (l : Lending) (c : Call) (s : State) → gives-order c ≡ false → issued z l c s .order ≡ []
-unfolding issued open-rule begin-rule begin-of write-rule write-of read-rule read-of own-read-of judged-read-of granted-read-of show-rule show-of commit-rule judged-commit-of granted-commit-of turned-back give-up-rule give-up-of post-rule post-of close-rule close-of recorded refused
+unfolding issued open-rule begin-rule begin-of write-rule write-of read-rule read-of own-read-of show-rule show-of commit-rule granted-of turned-back give-up-rule give-up-of post-rule post-of close-rule close-of recorded refused
 orderless z l Open s e = refl
 orderless z l Begin s e = refused-or Orderless _ s _ (λ n k. refl) (λ g. refl)
 orderless z l (Write h c value) s e = refused-or Orderless _ s _ (λ n k. refl) (λ g. refl)
 orderless z l (Read h c) s e =
     refused-or Orderless _ s _ (λ n k. refl) λ g.
     one-of Orderless (wrote (place-at (s .books) (place-of h)) c) _ _ (λ own. refl)
-    (λ other. either-weighed Orderless z _ (place-of h) _ _ refl refl)
+    (λ other. either-judged Orderless z s (place-of h) _ refl refl)
 orderless z l (Show given h c) s e = refused-or Orderless _ s _ (λ n k. refl) (λ g. refl)
 orderless z l (Commit h) s e =
     refused-or Orderless _ s _ (λ n k. refl) λ g.
-    either-weighed Orderless z _ (place-of h) _ _ refl refl
+    either-judged Orderless z s (place-of h) _ refl refl
 orderless z l (GiveUp h) s e = refused-or Orderless _ s _ (λ n k. refl) (λ g. refl)
 orderless z l (Post c value) s e = refused-or Orderless _ s _ (λ n k. refl) (λ g. refl)
 orderless z l (Order h) s e = absurd (false≢true (sym e))

@@ -2,21 +2,22 @@
 -- written, and every read of the day the value of its time. Rests on the mirror of the books in the day. Assumes nothing.
 use Prim.Native.Nat.{ℕ, _<_}
 use mathlib.Core.Path.{_≡_, refl}
-use mathlib.Core.Bool.{false}
+use mathlib.Core.Bool.{true}
 use native.Mathlib.Omega.{arith}
 use Rattle.basics.specs.Bytes.{AreBytes}
 use Rattle.rules.specs.declared.Place.{Place}
-use Rattle.rules.specs.Sizes.{Size, Within}
+use Rattle.rules.specs.Sizes.{Size, Within, width}
 use Rattle.rules.specs.Books.{Books, place-at, freed, begun, with-place, opened, closed, lowest-free}
 use Rattle.rules.specs.Handles.{place-of}
-use Rattle.rules.specs.Daylog.{begin-kind, give-up-kind, read-conflict-kind, commit-conflict-kind, no-value, kind-commits, kind-writes, kind-judged-read, kind-own-read}
+use Rattle.rules.specs.Daylog.{begin-kind, give-up-kind, no-value, kind-commits, kind-frees, kind-writes, kind-judged-read, kind-own-read}
 use Rattle.rules.specs.State.{State, Outcome, adds, refused, recorded}
-use Rattle.rules.specs.Steps.{with-books, record-at, number-of, turned-back, open-rule, begin-of, show-of, give-up-of, order-of, close-of}
-use Rattle.rules.specs.Calls.{Call, Lending}
+use Rattle.rules.specs.Steps.{with-books, record-at, number-of, Judged, granted-of, turned-back, open-rule, begin-of, show-of, give-up-of, order-of, close-of}
+use Rattle.rules.specs.Calls.{Call, Lending, owns, IsJudged, read-judged, commit-judged}
 use Rattle.rules.specs.Kept.{LiveCaller, BeginAsked}
 use Rattle.rules.specs.Run.{Machine, new-day, moved-on, after-call}
 use Rattle.rules.specs.Runs.{Starts, value-taken}
-use Rattle.rules.proofs.EachCall.{EachOutcome}
+use Rattle.rules.proofs.EachCall.{AskedOf, EachOutcome}
+use Rattle.rules.proofs.JudgedStep.{frees-only, judged-step}
 use Rattle.rules.proofs.Mirror.{Mirrored, Valued}
 use Rattle.rules.proofs.DayGrows.{NobodyLive, nobody-opened, nobody-closed, nobody-at-start, valued-new-day, reads-nothing, valued-quiet, stays-freed, stays-begun, changed-one, zeros-in-bytes, proper-at, begun-turn}
 use Rattle.rules.proofs.CellsRead.{valued-read, valued-own-read}
@@ -49,12 +50,20 @@ module _ (z : Size) (l : Lending) (m : Machine) (w : Within z) (mirror : Mirrore
     abbrev p : Place
     p = place-at b i
 
-    valued-freed : (kind c : ℕ) → kind < 256 → c < 256 → kind-commits kind ≡ false → kind-writes kind ≡ false → kind-judged-read kind ≡ false
-        → kind-own-read kind ≡ false → Valued z (moved-on m (with-books s (with-place b i (freed p))) (adds (record-at kind i p c no-value)))
-    valued-freed kind c k d commits writes judged own =
+    valued-freed : (kind c : ℕ) → kind-frees kind ≡ true → c < width → Valued z (moved-on m (with-books s (with-place b i (freed p))) (adds (record-at kind i p c no-value)))
+    valued-freed kind c k inside =
+        let frees = frees-only kind k in
         valued-quiet z m valued (record-at kind i p c no-value) (with-place b i (freed p))
-        (caller-proper z m mirror h caller w kind c no-value k d refl zeros-in-bytes)
-        (reads-nothing m _ judged own) commits writes (caller-changed z m mirror h caller (freed p) (stays-freed p p))
+        (caller-proper z m mirror h caller w kind c no-value (frees .small) (omega arith) refl zeros-in-bytes)
+        (reads-nothing m _ (frees .judged-read) (frees .own-read)) (frees .commits) (frees .writes)
+        (caller-changed z m mirror h caller (freed p) (stays-freed p p))
+
+  -- ---- a judged call, were it granted
+
+  pub valued-judged : {c : Call} {h : ℕ} {j : Judged} → IsJudged z (owns (m .state .books)) (m .state) c h j → AskedOf z l (m .state) c
+      → Valued z (after-call m (granted-of (m .state) (place-of h) j))
+  valued-judged (read-judged h c other) asked = valued-read z l m w mirror valued h c asked
+  valued-judged (commit-judged h) asked = valued-commit z l m w mirror valued h asked
 
   -- ---- a begin
 
@@ -78,7 +87,7 @@ module _ (z : Size) (l : Lending) (m : Machine) (w : Within z) (mirror : Mirrore
 
   -- every outcome of every call
   pub valued-each : EachOutcome z l (m .state) Then
-  unfolding after-call moved-on refused open-rule show-of turned-back give-up-of order-of close-of recorded kind-commits kind-writes kind-judged-read kind-own-read
+  unfolding after-call moved-on refused open-rule show-of turned-back give-up-of order-of close-of recorded kind-frees
   valued-each =
       record {
         on-refused = λ c n k other bytes. valued;
@@ -86,13 +95,12 @@ module _ (z : Size) (l : Lending) (m : Machine) (w : Within z) (mirror : Mirrore
         on-begin = λ asked bytes. valued-begin asked;
         on-write = λ h c value asked bytes. valued-write z l m w mirror valued h c value asked bytes;
         on-own-read = λ h c asked own bytes. valued-own-read z l m w mirror valued h c asked own;
-        on-read = λ h c asked other free bytes. valued-read z l m w mirror valued h c asked;
-        on-read-back = λ h c asked other cycle bytes.
-            valued-freed h (asked .caller) read-conflict-kind c (omega arith) (omega (arith, asked .cell, w .cells)) refl refl refl refl;
+        on-judged = λ judged asked free bytes. valued-judged judged asked;
+        on-turned-back = λ {c} {h} {j} judged asked cycle bytes.
+            let step = judged-step z l s judged asked in
+            valued-freed h (step .caller) (j .back) (j .cell) (step .frees) (step .small w);
         on-show = λ given h c asked bytes. valued;
-        on-commit = λ h asked free bytes. valued-commit z l m w mirror valued h asked;
-        on-commit-back = λ h asked cycle bytes. valued-freed h (asked .caller) commit-conflict-kind 0 (omega arith) (omega arith) refl refl refl refl;
-        on-give-up = λ h asked bytes. valued-freed h (asked .caller) give-up-kind 0 (omega arith) (omega arith) refl refl refl refl;
+        on-give-up = λ h asked bytes. valued-freed h (asked .caller) give-up-kind 0 refl (omega arith);
         on-post = λ c value asked bytes. valued-post z l m w mirror valued c value asked bytes;
         on-order = λ h asked bytes. valued;
         on-close = λ asked bytes. new-books (closed b) (nobody-closed b);

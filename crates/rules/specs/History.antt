@@ -13,7 +13,7 @@ use Rattle.basics.specs.Lists.{member, distinct}
 use Rattle.rules.specs.declared.Record.{Record}
 use Rattle.rules.specs.Sizes.{Size}
 use Rattle.rules.specs.Cells.{cell-of}
-use Rattle.rules.specs.Daylog.{judged-read-kind, commit-kind, read-conflict-kind, commit-conflict-kind, kind-commits, kind-frees, kind-writes, kind-judged-read, kind-own-read}
+use Rattle.rules.specs.Daylog.{kind-commits, kind-conflict, kind-frees, kind-writes, kind-judged-read, kind-own-read, kind-has-value, granted-kind}
 use Rattle.rules.specs.Layout.{walks}
 use Rattle.rules.specs.Day.{Event, events, is-transaction, wrote-cell, written-value, company-of}
 use Rattle.rules.specs.Checker.{accepted}
@@ -170,20 +170,17 @@ pub record AcceptedSays : Type 0 where
 
 -- ---- definition 1
 
--- the record of a read that met Conflict, turned into a granted one with some value, and that of a commit
-abbrev pub as-granted-read : Record → List ℕ → Record
-as-granted-read r value = record { kind = judged-read-kind; place = r .place; cell = r .cell; turn = r .turn; value = value }
-
-abbrev pub as-granted-commit : Record → Record
-as-granted-commit r = record { kind = commit-kind; place = r .place; cell = r .cell; turn = r .turn; value = r .value }
+-- the record of a call that met Conflict, turned into that of a granted one, with some value where the kind has one
+abbrev pub as-granted : Record → List ℕ → Record
+as-granted r value =
+    let kind = granted-kind (r .kind) in
+    record { kind = kind; place = r .place; cell = r .cell; turn = r .turn; value = cond (kind-has-value kind) value (r .value) }
 
 -- H is permissive with respect to conflict local opacity: it has it, and with no Conflict turned into a grant would it, up to there
 pub record Permissive (opening : List ℕ) (day : List Record) : Type 0 where
   pub has-it : LocallyOpaque opening (events day)
-  pub no-read : (newer earlier : List Record) (r : Record) (value : List ℕ) → day ≡ newer ++ (r ∷ earlier) → r .kind ≡ read-conflict-kind
-      → LocallyOpaque opening (events (as-granted-read r value ∷ earlier)) → ⊥
-  pub no-commit : (newer earlier : List Record) (r : Record) → day ≡ newer ++ (r ∷ earlier) → r .kind ≡ commit-conflict-kind
-      → LocallyOpaque opening (events (as-granted-commit r ∷ earlier)) → ⊥
+  pub no-grant : (newer earlier : List Record) (r : Record) (value : List ℕ) → day ≡ newer ++ (r ∷ earlier) → kind-conflict (r .kind) ≡ true
+      → LocallyOpaque opening (events (as-granted r value ∷ earlier)) → ⊥
 
 -- so is every day that a run writes
 abbrev pub DaysPermissive : Type 0

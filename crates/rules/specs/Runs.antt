@@ -16,10 +16,10 @@ use Rattle.rules.specs.Sizes.{Size, Within, table-bytes, drafts-bytes, o
 use Rattle.rules.specs.Books.{Books, Shaped, opened, closed}
 use Rattle.rules.specs.Handles.{handle-of, place-of, turn-of, is-stale}
 use Rattle.rules.specs.Numbers.{granted, conflict, no-order}
-use Rattle.rules.specs.Cells.{cell-of}
 use Rattle.rules.specs.Daylog.{begin-kind, judged-read-kind, own-read-kind, write-kind, commit-kind, give-up-kind, read-conflict-kind, commit-conflict-kind, post-kind, kind-starts, no-value, day-bytes, standing, records-in, day-of}
 use Rattle.rules.specs.State.{Outcome, entry-bytes, shown-bytes, buffer-after}
-use Rattle.rules.specs.Calls.{Call, Open, Begin, Write, Read, Show, Commit, GiveUp, Post, Order, Close}
+use Rattle.rules.specs.Steps.{Judged}
+use Rattle.rules.specs.Calls.{Call, Open, Begin, Write, Read, Show, Commit, GiveUp, Post, Order, Close, IsJudged}
 use Rattle.rules.specs.Run.{Machine, outcome, new-day, after-call, played, fresh}
 use Rattle.rules.specs.Layout.{seat, well-laid-out}
 use Rattle.rules.specs.Day.{Event, events, company-of, day-before}
@@ -189,16 +189,13 @@ OrdersAccepted = AfterRuns GivesOrders
 abbrev pub DayPair : Size → List Event → ℕ → ℕ → ℕ → Type 0
 DayPair z es t k m = (company-of es t k ≡ true) × (company-of es t m ≡ true) × (day-before z es k m ≡ true)
 
--- the record that a judged read adds, were it granted, and that of a commit
-abbrev pub read-granted : Machine → ℕ → ℕ → Record
-read-granted m h c = record-of judged-read-kind h c (cell-of (m .state .table) c)
+-- the record that a judged call of a handle adds, were it granted
+abbrev pub record-granted : ℕ → Judged → Record
+record-granted h j = record-of (j .kind) h (j .cell) (j .value)
 
-abbrev pub commit-granted : ℕ → Record
-commit-granted h = record-of commit-kind h 0 no-value
-
--- a call meets none of 1 to 8
-abbrev pub MeetsNone : Outcome → Type 0
-MeetsNone o = (o .number ≡ granted) ⊎ (o .number ≡ conflict)
+-- a call that gives back this number meets none of 1 to 8
+abbrev pub MeetsNone : ℕ → Type 0
+MeetsNone number = (number ≡ granted) ⊎ (number ≡ conflict)
 
 -- the call of a handle meets Conflict exactly when, were it granted with the record r, ..
 pub record ConflictExactly (z : Size) (m : Machine) (h : ℕ) (r : Record) (o : Outcome) : Type 0 where
@@ -207,11 +204,11 @@ pub record ConflictExactly (z : Size) (m : Machine) (h : ℕ) (r : Record) (o : 
   -- .. no list at all would be accepted for the log with the record
   pub by-lists : (o .number ≡ conflict) ↔ ((order : List ℕ) → checked-on z m (r ∷ m .day) (holder (m .day) h) order ≡ no-order)
 
-pub record MeetsConflict (z : Size) (m : Machine) : Type 0 where
-  -- a judged read: the transaction has not written the cell
-  pub at-read : (h c : ℕ) → let o = outcome z (Read h c) m in
-      MeetsNone o → reads-own (m .day) h c ≡ false → ConflictExactly z m h (read-granted m h c) o
-  pub at-commit : (h : ℕ) → let o = outcome z (Commit h) m in MeetsNone o → ConflictExactly z m h (commit-granted h) o
+-- so it is with every judged call that meets none of 1 to 8; which cells a transaction has written is told by the log
+abbrev pub MeetsConflict : Size → Machine → Type 0
+MeetsConflict z m =
+    (c : Call) (h : ℕ) (j : Judged) → IsJudged z (reads-own (m .day)) (m .state) c h j → let o = outcome z c m in
+    MeetsNone (o .number) → ConflictExactly z m h (record-granted h j) o
 
 abbrev pub ConflictsMet : Type 0
 ConflictsMet = AfterRuns MeetsConflict

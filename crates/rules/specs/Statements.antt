@@ -1,8 +1,8 @@
 -- What is proved of the rules: the types of the theorems, to be read without their proofs.
 use mathlib.Core.Path.{_≡_}
-use mathlib.Core.Logic.{_↔_, _≢_}
+use mathlib.Core.Logic.{_↔_, _≢_, _⊎_}
 use Prim.Native.Nat.{ℕ, _≤_, _<_}
-use mathlib.Core.Bool.{Bool, true, false}
+use mathlib.Core.Bool.{true}
 use mathlib.Core.List.{List, []}
 use lib.ListN.{length}
 use Rattle.basics.specs.Bytes.{AreBytes}
@@ -10,16 +10,16 @@ use Rattle.basics.specs.Lists.{member, distinct, keeps}
 use Rattle.basics.specs.Elimination.{TakesLowest}
 use Rattle.rules.specs.declared.Record.{Record}
 use Rattle.rules.specs.Sizes.{Size, record-bytes, most-records}
-use Rattle.rules.specs.Books.{Books, place-at, is-held, wrote, freed, with-place}
+use Rattle.rules.specs.Books.{Books, place-at, is-held, freed, with-place}
 use Rattle.rules.specs.Handles.{place-of}
 use Rattle.rules.specs.Sound.{sound, Sound}
 use Rattle.rules.specs.Judging.{stands-before, company, has-cycle, HasCycle, given-places}
 use Rattle.rules.specs.Numbers.{granted, conflict, first-reason}
-use Rattle.rules.specs.Daylog.{Proper, AllProper, read-conflict-kind, commit-conflict-kind, no-value, encode, decode, spare-zero, standing, records-in, day-of}
+use Rattle.rules.specs.Daylog.{Proper, AllProper, no-value, encode, decode, spare-zero, standing, records-in, day-of}
 use Rattle.rules.specs.State.{State, Outcome, nothing, adds, empty}
 use Rattle.rules.specs.Layout.{walks, well-laid-out, WellLaidOut}
-use Rattle.rules.specs.Steps.{record-at, read-reasons, read-books, commit-reasons, commit-books}
-use Rattle.rules.specs.Calls.{Call, Open, Begin, Write, Read, Show, Commit, GiveUp, Post, Order, Close, Lending, issued}
+use Rattle.rules.specs.Steps.{record-at, Judged, books-granted}
+use Rattle.rules.specs.Calls.{Call, Show, Order, Lending, issued, reasons-of, handed-on, owns, IsJudged}
 use Rattle.rules.specs.Run.{Machine, after-call}
 
 -- the test of soundness says what the clauses say
@@ -77,34 +77,16 @@ pub record TurnsBack (s : State) (kind i c : ℕ) (o : Outcome) : Type 0 where
   pub drafts-stay : o .after .drafts ≡ s .drafts
   pub one-record : o .entry ≡ adds (record-at kind i (place-at (s .books) i) c no-value)
 
--- a read meets Conflict exactly if it meets none of 1 to 7, its cell is not written, and with itself counted as granted the pairs contain a cycle
-pub record ReadConflict (z : Size) (l : Lending) (s : State) (h c : ℕ) : Type 0 where
-  pub exactly : (issued z l (Read h c) s .number ≡ conflict) ↔ ((first-reason (read-reasons z (length (s .table)) (length (s .drafts)) (l .log) (s .books) h c) ≡ granted) × (wrote (place-at (s .books) (place-of h)) c ≡ false) × HasCycle z (read-books z (s .books) (place-of h) c) (place-of h))
-  pub turns-back : issued z l (Read h c) s .number ≡ conflict → TurnsBack s read-conflict-kind (place-of h) c (issued z l (Read h c) s)
+-- the call c, of the handle h, meets Conflict exactly if none of its reasons applies and, with itself counted as granted, the pairs contain a cycle
+pub record JudgedConflict (z : Size) (l : Lending) (s : State) (c : Call) (h : ℕ) (j : Judged) : Type 0 where
+  pub exactly : (issued z l c s .number ≡ conflict) ↔ ((first-reason (reasons-of z l c s) ≡ granted) × HasCycle z (books-granted (s .books) (place-of h) j) (place-of h))
+  pub turns-back : issued z l c s .number ≡ conflict → TurnsBack s (j .back) (place-of h) (j .cell) (issued z l c s)
 
--- a commit meets Conflict exactly if it meets none of 1 to 4 and, with itself counted as granted, the pairs contain a cycle
-pub record CommitConflict (z : Size) (l : Lending) (s : State) (h : ℕ) : Type 0 where
-  pub exactly : (issued z l (Commit h) s .number ≡ conflict) ↔ ((first-reason (commit-reasons z (length (s .table)) (length (s .drafts)) (l .log) (s .books) h) ≡ granted) × HasCycle z (commit-books z (s .books) (place-of h)) (place-of h))
-  pub turns-back : issued z l (Commit h) s .number ≡ conflict → TurnsBack s commit-conflict-kind (place-of h) 0 (issued z l (Commit h) s)
-
--- the calls that can answer 9: read and commit, which are judged, and show, which hands on the number that it is given
-abbrev pub can-answer-nine : Call → Bool
-can-answer-nine Open = false
-can-answer-nine Begin = false
-can-answer-nine (Write h c value) = false
-can-answer-nine (Read h c) = true
-can-answer-nine (Show given h c) = true
-can-answer-nine (Commit h) = true
-can-answer-nine (GiveUp h) = false
-can-answer-nine (Post c value) = false
-can-answer-nine (Order h) = false
-can-answer-nine Close = false
-
--- Conflict comes at a read or a commit, and at no other call
+-- Conflict comes at the judged calls, and at no other call; but a show hands on the number that it is given
 pub record Conflicts : Type 0 where
-  pub at-read : (z : Size) (l : Lending) (s : State) (h c : ℕ) → ReadConflict z l s h c
-  pub at-commit : (z : Size) (l : Lending) (s : State) (h : ℕ) → CommitConflict z l s h
-  pub at-no-other : (z : Size) (l : Lending) (s : State) (c : Call) → can-answer-nine c ≡ false → issued z l c s .number ≢ conflict
+  pub at-judged : (z : Size) (l : Lending) (s : State) (c : Call) (h : ℕ) (j : Judged) → IsJudged z (owns (s .books)) s c h j → JudgedConflict z l s c h j
+  pub at-no-other : (z : Size) (l : Lending) (s : State) (c : Call) → issued z l c s .number ≡ conflict
+      → ((h : ℕ) × (j : Judged) × IsJudged z (owns (s .books)) s c h j) ⊎ (handed-on c ≡ conflict)
 
 -- the list takes, again and again, among those of the company with nobody left before them, the one with the lowest begin record
 abbrev pub TakesLowestBegin : Size → Books → ℕ → List ℕ → Type 0

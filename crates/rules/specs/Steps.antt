@@ -52,7 +52,30 @@ handle-cell-reasons z b h c = soundness-reason z b ∷ (handle-reasons z b h ++ 
 unfoldable pub room-reason : Size → Books → ℕ → Reason
 room-reason z b more = log-full if ltb most-records (room-taken z b + more)
 
--- ---- Conflict
+-- ---- a judged call
+
+-- what is weighed of a judged call, counted as granted
+pub record Judged : Type 0 where
+  -- the record that it adds: kind, cell and value
+  pub kind : ℕ
+  pub cell : ℕ
+  pub value : List ℕ
+  -- the caller's place, the table and the drafts then
+  pub place : Place
+  pub table : List ℕ
+  pub drafts : List ℕ
+  -- the kind of its Conflict
+  pub back : ℕ
+
+-- the books as they would be if it were granted
+unfoldable pub books-granted : Books → ℕ → Judged → Books
+books-granted b i j = with-place b i (j .place)
+
+-- granted: one record more, and place, table and drafts as weighed
+unfoldable pub granted-of : State → ℕ → Judged → Outcome
+granted-of s i j =
+    recorded granted 0 (record { books = books-granted (s .books) i j; table = j .table; drafts = j .drafts })
+    (record-at (j .kind) i (place-at (s .books) i) (j .cell) (j .value))
 
 -- Conflict ends the caller's transaction, frees its place and adds one record
 unfoldable pub turned-back : State → ℕ → ℕ → ℕ → Outcome
@@ -65,8 +88,8 @@ unfoldable pub meets-conflict : Size → Books → ℕ → Bool
 meets-conflict z b i = has-cycle z b i
 
 -- a judged call is weighed with itself counted as granted, in the books as they would then be
-unfoldable pub weighed : Size → Books → ℕ → Outcome → Outcome → Outcome
-weighed z b i back on = cond (meets-conflict z b i) back on
+unfoldable pub judged-of : Size → State → ℕ → Judged → Outcome
+judged-of z s i j = cond (meets-conflict z (books-granted (s .books) i j) i) (turned-back s (j .back) i (j .cell)) (granted-of s i j)
 
 -- ---- Open gives books with every place free, turns 0, no records. It never refuses.
 
@@ -126,18 +149,21 @@ module _ (z : Size) where
   own-read-of s i c =
       recorded granted 0 (with-books s (with-record (s .books))) (record-at own-read-kind i (place-at (s .books) i) c (draft-of z (s .drafts) i c))
 
-  -- the books as they would be if a read were granted
-  unfoldable pub read-books : Books → ℕ → ℕ → Books
-  read-books b i c = with-place b i (read-marked (place-at b i) c (number-of b))
-
   -- any other read, granted: the table's value is recorded
-  unfoldable pub granted-read-of : State → ℕ → ℕ → Outcome
-  granted-read-of s i c =
-      recorded granted 0 (with-books s (read-books (s .books) i c))
-      (record-at judged-read-kind i (place-at (s .books) i) c (cell-of (s .table) c))
+  abbrev pub judged-read : State → ℕ → ℕ → Judged
+  judged-read s i c =
+      record {
+        kind = judged-read-kind;
+        cell = c;
+        value = cell-of (s .table) c;
+        place = read-marked (place-at (s .books) i) c (number-of (s .books));
+        table = s .table;
+        drafts = s .drafts;
+        back = read-conflict-kind;
+      }
 
-  unfoldable pub judged-read-of : State → ℕ → ℕ → Outcome
-  judged-read-of s i c = weighed z (read-books (s .books) i c) i (turned-back s read-conflict-kind i c) (granted-read-of s i c)
+  abbrev pub judged-read-of : State → ℕ → ℕ → Outcome
+  judged-read-of s i c = judged-of z s i (judged-read s i c)
 
   unfoldable pub read-of : State → ℕ → ℕ → Outcome
   read-of s i c = cond (wrote (place-at (s .books) i) c) (own-read-of s i c) (judged-read-of s i c)
@@ -176,24 +202,22 @@ module _ (z : Size) where
       ∷ soundness-reason z b
       ∷ handle-reasons z b h
 
-  -- the books as they would be if a commit were granted
-  unfoldable pub commit-books : Books → ℕ → Books
-  commit-books b i = with-place b i (sealed (place-at b i) (number-of b))
-
   -- granted: the written cells' drafts go into the table
-  unfoldable pub granted-commit-of : State → ℕ → Outcome
-  granted-commit-of s i =
+  abbrev pub judged-commit : State → ℕ → Judged
+  judged-commit s i =
       let p = place-at (s .books) i in
-      recorded granted 0
-      (record {
-        books = commit-books (s .books) i;
+      record {
+        kind = commit-kind;
+        cell = 0;
+        value = no-value;
+        place = sealed p (number-of (s .books));
         table = laid-over z (wrote p) (draft-of z (s .drafts) i) (s .table);
         drafts = s .drafts;
-      })
-      (record-at commit-kind i p 0 no-value)
+        back = commit-conflict-kind;
+      }
 
-  unfoldable pub judged-commit-of : State → ℕ → Outcome
-  judged-commit-of s i = weighed z (commit-books (s .books) i) i (turned-back s commit-conflict-kind i 0) (granted-commit-of s i)
+  abbrev pub judged-commit-of : State → ℕ → Outcome
+  judged-commit-of s i = judged-of z s i (judged-commit s i)
 
   unfoldable pub commit-rule : ℕ → State → ℕ → Outcome
   commit-rule log s h =

@@ -3,18 +3,19 @@
 -- keeps. Assumes nothing.
 use Prim.Native.Nat.{ℕ}
 use mathlib.Core.Path.{_≡_, refl, sym, _∙_, ap, subst}
-use mathlib.Core.Bool.{cond}
+use mathlib.Core.Bool.{Bool, true, false, cond, true≢false}
 use mathlib.Core.List.{List}
 use lib.ListN.{length}
 use native.Mathlib.Omega.{arith}
 use Rattle.basics.specs.Bytes.{AreBytes}
 use Rattle.basics.proofs.Bytes.{splice-length}
+use Rattle.rules.specs.declared.Size.{Size}
 use Rattle.rules.specs.Sizes.{yard, order-numbers}
 use Rattle.rules.specs.Numbers.{granted}
 use Rattle.rules.specs.Daylog.{commit-total, day-of}
-use Rattle.rules.specs.State.{Outcome, state-of, log-after, buffer-after}
-use Rattle.rules.specs.Calls.{Call, Open, Begin, Write, Read, Show, Commit, GiveUp, Post, Order, Close, issued}
-use Rattle.rules.specs.Steps.{open-rule}
+use Rattle.rules.specs.State.{State, Outcome, state-of, log-after, buffer-after}
+use Rattle.rules.specs.Calls.{Call, Open, Begin, Write, Read, Show, Commit, GiveUp, Post, Order, Close, issued, IsJudged, read-judged, commit-judged}
+use Rattle.rules.specs.Steps.{Judged, open-rule}
 use Rattle.rules.specs.Run.{Machine, lends, outcome, new-day, after-call}
 use Rattle.rules.specs.Kept.{Joined}
 use Rattle.rules.specs.Runs.{value-taken, told, told-call, shown-behind, shown-on}
@@ -25,7 +26,7 @@ use Rattle.rules.proofs.Told.{told-right}
 use Rattle.rules.proofs.Unlent.{unlent}
 use Rattle.machine.specs.declared.books.Answer.{Answer}
 use Rattle.machine.specs.View.{view, answer-of}
-use Rattle.machine.specs.Promises.{read-outcome, commit-outcome, order-outcome, close-outcome, LeavesLog, LeavesTable, LeavesBuffer}
+use Rattle.machine.specs.Promises.{order-outcome, close-outcome, LeavesLog, LeavesBuffer}
 use Rattle.machine.specs.Statements.{machine-of}
 use Rattle.machine.specs.Called.{call-of, lent-to}
 use Rattle.machine.proofs.Issuing.{Left, neither-left, write-left, post-left, read-left, commit-left, order-left, open-left}
@@ -43,6 +44,24 @@ pub record Follows (k : Known) : Type 0 where
   pub numbers : length (k .held .numbers) ≡ order-numbers yard
 
 -- ---- one call
+
+-- a show hands back a part and no number
+abbrev pub is-show : Call → Bool
+is-show Open = false
+is-show Begin = false
+is-show (Write h c value) = false
+is-show (Read h c) = false
+is-show (Show given h c) = true
+is-show (Commit h) = false
+is-show (GiveUp h) = false
+is-show (Post c value) = false
+is-show (Order h) = false
+is-show Close = false
+
+-- a judged call is none
+pub judged-no-show : {z : Size} {own : ℕ → ℕ → Bool} {s : State} {c : Call} {h : ℕ} {j : Judged} → IsJudged z own s c h j → is-show c ≡ false
+judged-no-show (read-judged h c other) = refl
+judged-no-show (commit-judged h) = refl
 
 -- what a caller is shown is what the rules show behind the call
 shown-same : (c : Call) (number : ℕ) (k : Held) (shown : List ℕ) (m : Machine) → m .state ≡ state-of (view (k .books)) (k .table) (k .drafts)
@@ -155,15 +174,6 @@ module _ (k : Known) (follows : Follows k) where
   abbrev All : Call → Answer → List ℕ → List ℕ → List ℕ → List ℕ → Type 0
   All = Left (held .books) (held .table) (held .drafts) (held .log) (held .numbers)
 
-  pub read-all : (h c : ℕ) {r : Answer} {log : List ℕ} → LeavesLog (held .books .records) (held .log) (read-outcome (held .books) h c (held .table) (held .drafts) (held .log)) r log
-      → All (Read h c) r (held .table) (held .drafts) log (held .numbers)
-  read-all h c left = read-left (held .books) (held .table) (held .drafts) (held .log) (held .numbers) h c left
-
-  pub commit-all : (h : ℕ) {r : Answer} {table log : List ℕ}
-      → LeavesTable (held .books .records) (held .log) (commit-outcome (held .books) h (held .table) (held .drafts) (held .log)) r table log
-      → All (Commit h) r table (held .drafts) log (held .numbers)
-  commit-all h left = commit-left (held .books) (held .table) (held .drafts) (held .log) (held .numbers) h left
-
   pub order-all : (h : ℕ) {r : Answer} {numbers : List ℕ} → LeavesBuffer (held .numbers) (order-outcome (held .books) h (held .numbers)) r numbers
       → All (Order h) r (held .table) (held .drafts) (held .log) numbers
   order-all h left = order-left (held .books) (held .table) (held .drafts) (held .log) (held .numbers) h left
@@ -174,32 +184,50 @@ module _ (k : Known) (follows : Follows k) where
   close-all left =
       neither-left (held .books) (held .table) (held .drafts) (held .log) (held .numbers) Close refl (unlent .of-close yard (length (held .log)) _ (m .state)) left
 
+  -- so does every call of the machine but show, which gives no number back
+  called-all : {c : Call} {number answer : ℕ} {after : Held} → Called held c number answer after → is-show c ≡ false
+      → All c (record { number = number; answer = answer; books = after .books }) (after .table) (after .drafts) (after .log) (after .numbers)
+  unfolding issued open-rule
+  called-all (open-called {b} e) other =
+      open-left (held .books) (held .table) (held .drafts) (held .log) (held .numbers) (ap (λ x. record { number = granted; answer = 0; books = x }) e)
+  called-all (begin-called left) other =
+      neither-left (held .books) (held .table) (held .drafts) (held .log) (held .numbers) Begin refl (unlent .of-begin yard (length (held .log)) (m .state)) left
+  called-all (write-called {h} {c} {value} left) other =
+      write-left (held .books) (held .table) (held .drafts) (held .log) (held .numbers) h c value left
+  called-all (read-called {h} {c} left) other = read-left (held .books) (held .table) (held .drafts) (held .log) (held .numbers) h c left
+  called-all show-called other = absurd (true≢false other)
+  called-all (commit-called {h} left) other = commit-left (held .books) (held .table) (held .drafts) (held .log) (held .numbers) h left
+  called-all (give-up-called {h} left) other =
+      neither-left (held .books) (held .table) (held .drafts) (held .log) (held .numbers) (GiveUp h) refl (unlent .of-give-up yard (length (held .log)) (m .state) h) left
+  called-all (post-called {c} {value} left) other = post-left (held .books) (held .table) (held .drafts) (held .log) (held .numbers) c value left
+  called-all (order-called {h} left) other = order-all h left
+  called-all (close-called left) other = close-all left
+  called-all (stepped-called call value left) other = left
+
+  -- the number that it gives back is that of its outcome
+  pub called-number : {c : Call} {number answer : ℕ} {after : Held} → Called held c number answer after → is-show c ≡ false → number ≡ outcome yard c m .number
+  called-number {c} called other = ap (λ a. a .number) (answer-left c _ _ _ _ _ (called-all called other))
+
+  -- and what it leaves follows the rules
+  all-then : {c : Call} {number answer : ℕ} {after : Held} → Called held c number answer after → is-show c ≡ false → (shown : List ℕ) → AreBytes (value-taken c)
+      → ShownBehind c number after shown → Follows (known-then k c number answer shown after)
+  all-then {c} called other shown bytes behind = left-then c _ _ _ _ _ (called-all called other) bytes shown behind
+
   -- every call of the machine
   pub called-then : {c : Call} {number answer : ℕ} {after : Held} → Called held c number answer after → (shown : List ℕ) → AreBytes (value-taken c)
       → ShownBehind c number after shown → Follows (known-then k c number answer shown after)
-  unfolding issued told open-rule
-  called-then (open-called {b} e) shown bytes behind =
-      left-then Open (record { number = granted; answer = 0; books = b }) _ _ _ _
-      (open-left (held .books) (held .table) (held .drafts) (held .log) (held .numbers) (ap (λ x. record { number = granted; answer = 0; books = x }) e)) bytes shown behind
-  called-then (begin-called {r} left) shown bytes behind =
-      left-then Begin r _ _ _ _
-      (neither-left (held .books) (held .table) (held .drafts) (held .log) (held .numbers) Begin refl (unlent .of-begin yard (length (held .log)) (m .state)) left) bytes
-      shown behind
-  called-then (write-called {h} {c} {value} {r} left) shown bytes behind =
-      left-then (Write h c value) r _ _ _ _ (write-left (held .books) (held .table) (held .drafts) (held .log) (held .numbers) h c value left) bytes shown behind
-  called-then (read-called {h} {c} {r} left) shown bytes behind = left-then (Read h c) r _ _ _ _ (read-all h c left) bytes shown behind
-  called-then show-called shown bytes behind = follows
-  called-then (commit-called {h} {r} left) shown bytes behind = left-then (Commit h) r _ _ _ _ (commit-all h left) bytes shown behind
-  called-then (give-up-called {h} {r} left) shown bytes behind =
-      left-then (GiveUp h) r _ _ _ _
-      (neither-left (held .books) (held .table) (held .drafts) (held .log) (held .numbers) (GiveUp h) refl (unlent .of-give-up yard (length (held .log)) (m .state) h) left)
-      bytes shown behind
-  called-then (post-called {c} {value} {r} left) shown bytes behind =
-      left-then (Post c value) r _ _ _ _ (post-left (held .books) (held .table) (held .drafts) (held .log) (held .numbers) c value left) bytes shown behind
-  called-then (order-called {h} {r} left) shown bytes behind =
-      left-then (Order h) r _ _ _ _ (order-all h left) bytes shown behind
-  called-then (close-called {r} left) shown bytes behind = left-then Close r _ _ _ _ (close-all left) bytes shown behind
-  called-then (stepped-called call value {r} left) shown bytes behind = left-then (call-of call value) r _ _ _ _ left bytes shown behind
+  unfolding told
+  called-then (open-called e) = all-then (open-called e) refl
+  called-then (begin-called left) = all-then (begin-called left) refl
+  called-then (write-called left) = all-then (write-called left) refl
+  called-then (read-called left) = all-then (read-called left) refl
+  called-then show-called = λ shown bytes behind. follows
+  called-then (commit-called left) = all-then (commit-called left) refl
+  called-then (give-up-called left) = all-then (give-up-called left) refl
+  called-then (post-called left) = all-then (post-called left) refl
+  called-then (order-called left) = all-then (order-called left) refl
+  called-then (close-called left) = all-then (close-called left) refl
+  called-then (stepped-called call value left) = λ shown bytes behind. left-then (call-of call value) _ _ _ _ _ left bytes shown behind
 
 -- ---- a run
 

@@ -17,7 +17,7 @@ use Rattle.rules.specs.Sizes.{yard, order-numbers, record-bytes}
 use Rattle.rules.specs.Numbers.{granted, lent, first-reason}
 use Rattle.rules.specs.Daylog.{decode, commit-total, trailer, standing, records-in, bytes-at, day-of}
 use Rattle.rules.specs.State.{Outcome, log-after, buffer-after}
-use Rattle.rules.specs.Calls.{Read, Commit, Order, Close}
+use Rattle.rules.specs.Calls.{Order, Close}
 use Rattle.rules.specs.Run.{Machine, outcome, after-call}
 use Rattle.rules.specs.Checker.{checked}
 use Rattle.rules.specs.Runs.{DayStarts, holder, ConflictExactly as RuleExactly}
@@ -27,7 +27,7 @@ use Rattle.rules.proofs.Daylog.{length-day-of, records-in-standing}
 use Rattle.rules.proofs.Holders.{handle-names}
 use Rattle.rules.proofs.NewDays.{close-starts}
 use Rattle.rules.proofs.Told.{stands-right}
-use Rattle.rules.proofs.Runs.{orders-given, conflict-at-read, conflict-at-commit}
+use Rattle.rules.proofs.Runs.{orders-given, conflict-met}
 use Rattle.rules.proofs.LocalOpacity.{permissive-kept}
 use Rattle.daylog.specs.Walked.{layout-number}
 use Rattle.readback.specs.Told.{entry-read}
@@ -38,7 +38,7 @@ use Rattle.checker.specs.Desk.{checked-pairs}
 use Rattle.theorems.specs.Calling.{as-it-stands, with-log, close-called, Known, Lends}
 use Rattle.theorems.specs.Statements.{ReadsBack, GivesOrders, ConflictExactly, MeetsConflict, OfEveryRun}
 use Rattle.theorems.proofs.AfterCall.{moved-state}
-use Rattle.theorems.proofs.Following.{machine-known, Follows, called-then, answer-left, log-left, numbers-left, read-all, commit-all, order-all, close-all, run-follows}
+use Rattle.theorems.proofs.Following.{machine-known, Follows, called-then, answer-left, log-left, numbers-left, order-all, close-all, judged-no-show, called-number, run-follows}
 
 -- a record of the day that a log's bytes hold is the one in its 16 bytes
 record-back : (log : List ℕ) (n : ℕ) (newer earlier : List Record) (e : Record) → day-of log n ≡ newer ++ (e ∷ earlier) → decode (bytes-at log (length earlier)) ≡ e
@@ -165,15 +165,9 @@ module _ (k : Known) (follows : Follows k) where
       }
 
   meets-conflict : MeetsConflict k
-  meets-conflict =
-      record {
-        at-read = λ h c r log left meets other.
-            let told = ap (λ a. a .number) (answer-left k follows (Read h c) r _ _ _ _ (read-all k follows h c left)) in
-            exactly h _ _ (r .number) told (conflict-at-read yard m yard-within (follows .kept) h c (rw told at meets) other);
-        at-commit = λ h r table log left meets.
-            let told = ap (λ a. a .number) (answer-left k follows (Commit h) r _ _ _ _ (commit-all k follows h left)) in
-            exactly h _ _ (r .number) told (conflict-at-commit yard m yard-within (follows .kept) h (rw told at meets));
-      }
+  meets-conflict c h j judged number answer after called meets =
+      let told = called-number k follows called (judged-no-show judged) in
+      exactly h _ _ number told (conflict-met yard m yard-within (follows .kept) c h j judged (rw told at meets))
 
 pub of-every-run : OfEveryRun
 of-every-run =

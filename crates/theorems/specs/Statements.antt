@@ -2,7 +2,7 @@
 -- without their proofs. `Run` is any list of calls from an opening or a close, any number of days.
 use Prim.Native.Nat.{ℕ, _+_, _*_, _%_}
 use mathlib.Core.Path.{_≡_}
-use mathlib.Core.Logic.{_↔_, _⊎_}
+use mathlib.Core.Logic.{_↔_}
 use mathlib.Core.Bool.{false}
 use mathlib.Core.List.{List, _∷_, _++_}
 use lib.ListN.{length, take}
@@ -12,11 +12,13 @@ use Rattle.rules.specs.declared.Record.{Record}
 use Rattle.rules.specs.Sizes.{yard, record-bytes}
 use Rattle.rules.specs.Handles.{is-stale}
 use Rattle.rules.specs.Numbers.{granted, conflict, no-order}
-use Rattle.rules.specs.Cells.{cell-of}
-use Rattle.rules.specs.Daylog.{judged-read-kind, commit-kind, no-value, standing, records-in, day-of}
+use Rattle.rules.specs.Daylog.{standing, records-in, day-of}
+use Rattle.rules.specs.State.{state-of}
+use Rattle.rules.specs.Steps.{Judged}
+use Rattle.rules.specs.Calls.{Call, IsJudged}
 use Rattle.rules.specs.Day.{events}
 use Rattle.rules.specs.Checker.{checked}
-use Rattle.rules.specs.Runs.{DayStarts, record-of, reads-own, holder, AnsweredBy, DayPair}
+use Rattle.rules.specs.Runs.{DayStarts, reads-own, holder, AnsweredBy, DayPair, record-granted, MeetsNone}
 use Rattle.rules.specs.History.{Permissive}
 use Rattle.daylog.specs.Walked.{layout-number}
 use Rattle.readback.specs.declared.entry.Entry.{Entry}
@@ -24,8 +26,8 @@ use Rattle.readback.specs.Told.{entry-read}
 use Rattle.checker.specs.Desk.{pairs-of, checked-pairs}
 use Rattle.machine.specs.declared.books.Answer.{Answer}
 use Rattle.machine.specs.View.{view}
-use Rattle.machine.specs.Promises.{read-outcome, commit-outcome, order-outcome, close-outcome, LeavesLog, LeavesTable, LeavesBuffer}
-use Rattle.theorems.specs.Calling.{as-it-stands, with-log, Known, Lends, Run}
+use Rattle.machine.specs.Promises.{order-outcome, close-outcome, LeavesLog, LeavesBuffer}
+use Rattle.theorems.specs.Calling.{Held, as-it-stands, with-log, Called, Known, Lends, Run}
 
 -- ---- read-back
 
@@ -70,16 +72,11 @@ pub record ConflictExactly (k : Known) (h : ℕ) (r : Record) (number : ℕ) : T
   -- .. the checker would answer 12 for every list
   pub by-lists : (number ≡ conflict) ↔ ((list : List ℕ) (x : ℕ) → x ≡ checked yard (k .opening) (log-with k r) (holder (k .day) h) list → x ≡ no-order)
 
-pub record MeetsConflict (k : Known) : Type 0 where
-  -- a judged read that meets none of 1 to 8: the transaction has not written the cell
-  pub at-read : (h c : ℕ) (r : Answer) (log : List ℕ)
-      → LeavesLog (k .held .books .records) (k .held .log) (read-outcome (k .held .books) h c (k .held .table) (k .held .drafts) (k .held .log)) r log
-      → (r .number ≡ granted) ⊎ (r .number ≡ conflict) → reads-own (k .day) h c ≡ false
-      → ConflictExactly k h (record-of judged-read-kind h c (cell-of (k .held .table) c)) (r .number)
-  -- a commit that meets none of 1 to 8
-  pub at-commit : (h : ℕ) (r : Answer) (table log : List ℕ)
-      → LeavesTable (k .held .books .records) (k .held .log) (commit-outcome (k .held .books) h (k .held .table) (k .held .drafts) (k .held .log)) r table log
-      → (r .number ≡ granted) ⊎ (r .number ≡ conflict) → ConflictExactly k h (record-of commit-kind h 0 no-value) (r .number)
+-- so it is with every judged call that meets none of 1 to 8; which cells a transaction has written is told by what the caller saw of the day
+abbrev pub MeetsConflict : Known → Type 0
+MeetsConflict k =
+    (c : Call) (h : ℕ) (j : Judged) → IsJudged yard (reads-own (k .day)) (state-of (view (k .held .books)) (k .held .table) (k .held .drafts)) c h j
+    → (number answer : ℕ) (after : Held) → Called (k .held) c number answer after → MeetsNone number → ConflictExactly k h (record-granted h j) number
 
 -- ---- of every run
 

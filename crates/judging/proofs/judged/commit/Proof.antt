@@ -1,6 +1,10 @@
 -- `judging::judged::commit` weighs a commit with itself counted as granted, and turns it back or grants it. Rests on what the verdict, the place's change, the laid table and the record are.
+use mathlib.Core.Path.{refl}
 use denote.Ref.{now}
-use Rattle.recording.proofs.Outcomes.{commit-back, commit-on}
+use Rattle.rules.specs.Books.{books-of}
+use Rattle.rules.specs.State.{state-of}
+use Rattle.rules.specs.Steps.{judged-commit}
+use Rattle.recording.proofs.Outcomes.{judged-back, judged-on}
 use borrow.Author.Needs.{needs}
 use Rattle.judging.proofs.judged.commit.Statement.{statement}
 use Rattle.judging.proofs.judged.commit.Tie as tie
@@ -32,7 +36,8 @@ same-length c = search needs
 returns : tie.Need-returns
 returns c =
     let a = c .before .before .before .before .before .before .before .before .before .before .before .before .before .args in
-    commit-back (a .records) (a .t1) (now (a .log)) (a .z) (a .i) (now (a .table)) (now (a .drafts)) (c .before .before .before .before .before .before .before .before .commit .ensures) (c .before .before .before .before .before .before .before .changed .ensures) (c .before .before .before .before .before .is-conflict .ensures) (c .before .before .before .before .if1 .taken) (c .before .before .turn-back .ensures)
+    let j = judged-commit (a .z) (state-of (books-of (a .records) (a .t1)) (now (a .table)) (now (a .drafts))) (a .i) in
+    judged-back (a .records) (a .t1) (now (a .log)) (a .z) (a .i) (now (a .table)) (now (a .drafts)) j (c .before .before .before .before .before .before .before .before .commit .ensures) (c .before .before .before .before .before .before .before .changed .ensures) (c .before .before .before .before .before .is-conflict .ensures) (c .before .before .before .before .if1 .taken) (c .before .before .turn-back .ensures)
 
 lay-requires : tie.Need-lay-requires
 lay-requires c κs = search needs
@@ -49,7 +54,8 @@ same-length-3 c = search needs
 returns-2 : tie.Need-returns-2
 returns-2 c =
     let a = c .before .before .before .before .before .before .before .before .before .before .before .before .before .before .before .before .before .before .args in
-    commit-on (a .records) (a .t1) (now (a .log)) (a .z) (a .i) (now (a .table)) (now (a .drafts)) (c .before .before .before .before .before .before .before .before .before .before .before .before .before .commit .ensures) (c .before .before .before .before .before .before .before .before .before .before .before .before .changed .ensures) (c .before .before .before .before .before .before .before .before .before .before .is-conflict .ensures) (c .before .before .before .before .before .before .before .before .before .if1 .left) (c .before .before .before .before .before .before .lay .ensures) (c .before .before .add .ensures)
+    let j = judged-commit (a .z) (state-of (books-of (a .records) (a .t1)) (now (a .table)) (now (a .drafts))) (a .i) in
+    judged-on (a .records) (a .t1) (now (a .log)) (a .z) (a .i) (now (a .table)) (now (a .drafts)) j (c .before .before .before .before .before .before .before .before .before .before .before .before .before .commit .ensures) (c .before .before .before .before .before .before .before .before .before .before .before .before .changed .ensures) (c .before .before .before .before .before .before .before .before .before .before .is-conflict .ensures) (c .before .before .before .before .before .before .before .before .before .if1 .left) refl (c .before .before .before .before .before .before .lay .ensures) (c .before .before .add .ensures)
 
 pub commit-spec : {M : Type 1} → statement M
 commit-spec =

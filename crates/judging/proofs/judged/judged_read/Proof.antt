@@ -1,6 +1,11 @@
 -- `judging::judged::judged_read` weighs a read with itself counted as granted, and turns it back or grants it. Rests on what the verdict, the place's change, the value and the record are.
+use mathlib.Core.Path.{refl}
+use mathlib.Core.List.{[]}
 use denote.Ref.{now}
-use Rattle.recording.proofs.Outcomes.{judged-read-back, judged-read-on}
+use Rattle.rules.specs.Books.{books-of}
+use Rattle.rules.specs.State.{state-of}
+use Rattle.rules.specs.Steps.{judged-read}
+use Rattle.recording.proofs.Outcomes.{judged-back, judged-on}
 use borrow.Author.Needs.{needs}
 use Rattle.judging.proofs.judged.judged_read.Statement.{statement}
 use Rattle.judging.proofs.judged.judged_read.Tie as tie
@@ -32,8 +37,9 @@ same-length c = search needs
 returns : tie.Need-returns
 returns c =
     let a = c .before .before .before .before .before .before .before .before .before .before .before .before .args in
-    let back = c .before .before .turn-back .ensures in
-    judged-read-back (a .records) (a .t1) (now (a .log)) (a .z) (a .i) (a .c) (now (a .table)) (c .before .before .before .before .before .before .before .before .mark-read .ensures) (c .before .before .before .before .before .before .before .changed .ensures) (c .before .before .before .before .before .is-conflict .ensures) (c .before .before .before .before .if1 .taken) back
+    let j = judged-read (a .z) (state-of (books-of (a .records) (a .t1)) (now (a .table)) []) (a .i) (a .c) in
+    let back = judged-back (a .records) (a .t1) (now (a .log)) (a .z) (a .i) (now (a .table)) [] j (c .before .before .before .before .before .before .before .before .mark-read .ensures) (c .before .before .before .before .before .before .before .changed .ensures) (c .before .before .before .before .before .is-conflict .ensures) (c .before .before .before .before .if1 .taken) (c .before .before .turn-back .ensures) in
+    (back .0, back .1 .1)
 
 value-at-requires : tie.Need-value-at-requires
 value-at-requires c κs = search needs
@@ -47,7 +53,9 @@ same-length-2 c = search needs
 returns-2 : tie.Need-returns-2
 returns-2 c =
     let a = c .before .before .before .before .before .before .before .before .before .before .before .before .before .args in
-    judged-read-on (a .records) (a .t1) (now (a .log)) (a .z) (a .i) (a .c) (now (a .table)) (c .before .before .before .before .before .before .before .before .before .mark-read .ensures) (c .before .before .before .before .before .before .before .before .changed .ensures) (c .before .before .before .before .before .before .is-conflict .ensures) (c .before .before .before .before .before .if1 .left) (c .before .before .before .before .value-at .ensures) (c .before .before .add .ensures)
+    let j = judged-read (a .z) (state-of (books-of (a .records) (a .t1)) (now (a .table)) []) (a .i) (a .c) in
+    let on = judged-on (a .records) (a .t1) (now (a .log)) (a .z) (a .i) (now (a .table)) [] j (c .before .before .before .before .before .before .before .before .before .mark-read .ensures) (c .before .before .before .before .before .before .before .before .changed .ensures) (c .before .before .before .before .before .before .is-conflict .ensures) (c .before .before .before .before .before .if1 .left) (c .before .before .before .before .value-at .ensures) refl (c .before .before .add .ensures) in
+    (on .0, on .1 .1)
 
 pub judged-read-spec : {M : Type 1} → statement M
 judged-read-spec =
