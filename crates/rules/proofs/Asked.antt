@@ -19,7 +19,7 @@ use Rattle.rules.specs.Sound.{Sound}
 use Rattle.rules.specs.Numbers.{granted, stale, ended, Reason, _if_, first-reason, wrong}
 use Rattle.rules.specs.Steps.{soundness-reason, handle-reasons, cell-reason, handle-cell-reasons, room-reason, begin-reasons, write-reasons, read-reasons, show-reasons, commit-reasons, give-up-reasons, post-reasons, order-reasons, close-reasons}
 use Rattle.rules.specs.Kept.{HeldCaller, LiveCaller, BeginAsked, WriteAsked, ReadAsked, ShowAsked, CommitAsked, GiveUpAsked, PostAsked, OrderAsked, CloseAsked, ReasonsAsked}
-use Rattle.rules.proofs.Handles.{ended-is-committed, good-or-stale}
+use Rattle.rules.proofs.Handles.{ended-is-committed, StatusKnown, good-or-stale}
 use Rattle.rules.proofs.Sound.{sound-says}
 
 -- ---- reasons that do not apply
@@ -101,9 +101,13 @@ module _ (z : Size) (b : Books) (h : ℕ) (s : Sound z b) where
   unfolding out-of-range
   place-asked e = leb-false (z .places) (place-of h) (or-false-right (leb handles h) _ e)
 
+  -- a place of a known status
+  pub status-asked : StatusKnown z (place-at b (place-of h)) h
+  status-asked near = s .each (place-of h) (place-asked near) .status-known
+
   -- of sound books a handle is good exactly if it is not stale
   pub good-is-not-stale : good-handle z b h ≡ not (is-stale z b h)
-  good-is-not-stale = good-or-stale z b h (λ near. s .each (place-of h) (place-asked near) .status-known)
+  good-is-not-stale = good-or-stale z b h status-asked
 
   -- what a good handle says
   module _ (good : good-handle z b h ≡ true) where
