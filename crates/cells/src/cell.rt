@@ -6,14 +6,15 @@ ghost use Rattle.rules.specs.Sizes.{Within, cell-bytes, drafts-bytes};
 ghost use Rattle.rules.specs.Cells.{cell-of, with-cell, draft-cell, draft-of, with-draft};
 use parts::bytes;
 use rules::Size;
+use rules::sizes::CELL_BYTES;
 
 // The value in a cell.
 pub fn value_at(from: &[u8], cell: usize) -> [u8; 8]
     requires { ⌜ cell-bytes * cell + cell-bytes ≤ length (now from) ⌝ }
     ensures { λ r. ⌜ r ≡ cell-of (now (from .entry)) cell ⌝ }
 {
-    let at = 8 * cell;
-    let end = at + 8;
+    let at = CELL_BYTES * cell;
+    let end = at + CELL_BYTES;
     bytes::value_of(&from[at..end])
 }
 
@@ -22,8 +23,8 @@ pub fn put_value_at(into: &mut [u8], cell: usize, value: [u8; 8])
     requires { ⌜ cell-bytes * cell + cell-bytes ≤ length (now into) ⌝ }
     ensures { λ _. ⌜ now (into .exit) ≡ with-cell cell value (now (into .entry)) ⌝ }
 {
-    let front = 8 * cell;
-    let end = front + 8;
+    let front = CELL_BYTES * cell;
+    let end = front + CELL_BYTES;
     bytes::put_value(&mut into[front..end], value);
 }
 

@@ -9,6 +9,7 @@ ghost use Rattle.rules.specs.Sizes.{Within, cell-bytes, table-bytes, drafts-byt
 ghost use Rattle.rules.specs.State.{shown-bytes, shown-at, shown-draft, shown-cell};
 use crate::cell;
 use rules::Size;
+use rules::sizes::CELL_BYTES;
 
 // The eight bytes of a cell themselves.
 pub fn part_at<'a>(from: &'a [u8], cell: usize) -> &'a [u8]
@@ -16,8 +17,8 @@ pub fn part_at<'a>(from: &'a [u8], cell: usize) -> &'a [u8]
     ensures contents { λ r. ⌜ now r ≡ part (cell-bytes * cell) cell-bytes (now (from .entry)) ⌝ }
     ensures place { λ r. ⌜ ptr r ≡ (ptr (from .entry) .0, cell-bytes * cell + ptr (from .entry) .1) ⌝ }
 {
-    let at = 8 * cell;
-    let end = at + 8;
+    let at = CELL_BYTES * cell;
+    let end = at + CELL_BYTES;
     &from[at..end]
 }
 

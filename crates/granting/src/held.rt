@@ -14,6 +14,12 @@ use recording::Step;
 use recording::record;
 use rules::Place;
 use rules::Size;
+use rules::kinds::GIVE_UP;
+use rules::kinds::OWN_READ;
+use rules::kinds::WRITE;
+use rules::numbers::CONFLICT;
+use rules::numbers::GRANTED;
+use rules::sizes::CELL_BYTES;
 
 // Write puts the value in the place's draft of the cell and marks the cell written.
 pub fn write(
@@ -36,8 +42,8 @@ pub fn write(
 {
     let p = places[i];
     cell::put_draft_at(drafts, i, c, z, value);
-    record::add(log, records, 4, i, p, c, value);
-    record::changed(0, 0, places, records, i, change::mark(p, c))
+    record::add(log, records, WRITE, i, p, c, value);
+    record::changed(GRANTED, 0, places, records, i, change::mark(p, c))
 }
 
 // Give up frees the place.
@@ -49,8 +55,8 @@ pub fn give_up(places: [Place; 32], records: u16, z: Size, i: usize, log: &mut [
     ensures log { λ r. ⌜ now (log .exit) ≡ log-after records (give-up-of z (state-of (books-of records places) [] []) i .entry) (now (log .entry)) ⌝ }
 {
     let p = places[i];
-    record::add(log, records, 6, i, p, 0, [0; 8]);
-    record::changed(0, 0, places, records, i, change::free(p))
+    record::add(log, records, GIVE_UP, i, p, 0, [0; CELL_BYTES]);
+    record::changed(GRANTED, 0, places, records, i, change::free(p))
 }
 
 // Conflict frees the place, with a record of its kind.
@@ -68,9 +74,9 @@ pub fn turn_back(
     ensures log { λ r. ⌜ now (log .exit) ≡ log-after records (turned-back (state-of (books-of records places) [] []) kind i c .entry) (now (log .entry)) ⌝ }
 {
     let p = places[i];
-    record::add(log, records, kind, i, p, c, [0; 8]);
+    record::add(log, records, kind, i, p, c, [0; CELL_BYTES]);
     let freed = change::free(p);
-    record::changed(9, 0, places, records, i, freed)
+    record::changed(CONFLICT, 0, places, records, i, freed)
 }
 
 // A read of a written cell: its draft is recorded, and no place changes.
@@ -93,14 +99,14 @@ pub fn own_read(
     record::add(
         log,
         records,
-        3,
+        OWN_READ,
         i,
         places[i],
         c,
         cell::draft_at(drafts, i, c, z),
     );
     Step {
-        number: 0,
+        number: GRANTED,
         answer: 0,
         records: records + 1,
         places,

@@ -15,6 +15,10 @@ use recording::Step;
 use recording::record;
 use rules::Place;
 use rules::Size;
+use rules::kinds::BEGIN;
+use rules::kinds::POST;
+use rules::numbers::GRANTED;
+use rules::sizes::CELL_BYTES;
 use survey::search;
 
 // Begin takes the lowest free place and answers the handle.
@@ -27,8 +31,15 @@ pub fn begin(places: [Place; 32], records: u16, z: Size, log: &mut [u8]) -> Step
 {
     let i = search::lowest_free_of(places, z);
     let begun = change::begin(places[i], records + 1);
-    record::add(log, records, 1, i, begun, 0, [0; 8]);
-    record::changed(0, handle::of(i, begun.turn), places, records, i, begun)
+    record::add(log, records, BEGIN, i, begun, 0, [0; CELL_BYTES]);
+    record::changed(
+        GRANTED,
+        handle::of(i, begun.turn),
+        places,
+        records,
+        i,
+        begun,
+    )
 }
 
 // Post takes the lowest free place, writes the table and answers the handle.
@@ -52,6 +63,13 @@ pub fn post(
     let i = search::lowest_free_of(places, z);
     let posted = change::post(places[i], c, records + 1);
     cell::put_value_at(table, c, value);
-    record::add(log, records, 9, i, posted, c, value);
-    record::changed(0, handle::of(i, posted.turn), places, records, i, posted)
+    record::add(log, records, POST, i, posted, c, value);
+    record::changed(
+        GRANTED,
+        handle::of(i, posted.turn),
+        places,
+        records,
+        i,
+        posted,
+    )
 }

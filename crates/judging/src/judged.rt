@@ -17,6 +17,12 @@ use recording::Step;
 use recording::record;
 use rules::Place;
 use rules::Size;
+use rules::kinds::COMMIT;
+use rules::kinds::COMMIT_CONFLICT;
+use rules::kinds::JUDGED_READ;
+use rules::kinds::READ_CONFLICT;
+use rules::numbers::GRANTED;
+use rules::sizes::CELL_BYTES;
 
 // A read of any other cell: granted, the table's value is recorded and the read marked.
 fn judged_read(
@@ -37,7 +43,7 @@ fn judged_read(
 {
     let p = places[i];
     let as_granted = record::changed(
-        0,
+        GRANTED,
         0,
         places,
         records,
@@ -46,10 +52,10 @@ fn judged_read(
     );
     let with_read = as_granted.places;
     if verdict::is_conflict(with_read, i, z) {
-        return held::turn_back(places, records, 7, i, c, log);
+        return held::turn_back(places, records, READ_CONFLICT, i, c, log);
     }
     let value = cell::value_at(table, c);
-    record::add(log, records, 2, i, p, c, value);
+    record::add(log, records, JUDGED_READ, i, p, c, value);
     as_granted
 }
 
@@ -97,13 +103,20 @@ pub fn commit(
     ensures log { λ r. ⌜ now (log .exit) ≡ log-after records (judged-commit-of z (state-of (books-of records places) (now (table .entry)) (now (drafts .entry))) i .entry) (now (log .entry)) ⌝ }
 {
     let p = places[i];
-    let as_granted = record::changed(0, 0, places, records, i, change::commit(p, records + 1));
+    let as_granted = record::changed(
+        GRANTED,
+        0,
+        places,
+        records,
+        i,
+        change::commit(p, records + 1),
+    );
     let with_commit = as_granted.places;
     if verdict::is_conflict(with_commit, i, z) {
-        return held::turn_back(places, records, 8, i, 0, log);
+        return held::turn_back(places, records, COMMIT_CONFLICT, i, 0, log);
     }
     let written = p.written;
     lay::lay(table, drafts, written, i, z);
-    record::add(log, records, 5, i, p, 0, [0; 8]);
+    record::add(log, records, COMMIT, i, p, 0, [0; CELL_BYTES]);
     as_granted
 }

@@ -5,6 +5,7 @@ use Rattle.rules.specs.Sizes.{Within, yard}
 use Rattle.rules.specs.State.{Outcome}
 use Rattle.rules.proofs.Shape.{yard-within}
 use Rattle.recording.specs.declared.Step.{Step}
+use Rattle.recording.specs.Left.{Leaves}
 use Rattle.recording.specs.Stepped.{step-of}
 use Rattle.machine.specs.declared.books.Answer.{Answer}
 use Rattle.machine.specs.View.{answer-of, answer-of-step}
@@ -14,11 +15,11 @@ pub size-within : {z : Size} → z ≡ yard → Within z
 size-within size = subst Within (sym size) yard-within
 
 -- what a call leaves at that size, it leaves at document 01's
-pub at-yard : (Leaves : Outcome → Type 0) (rule : Size → Outcome) {z : Size} → z ≡ yard → Leaves (rule z) → Leaves (rule yard)
-at-yard Leaves rule size = subst Leaves (ap rule size)
+pub at-yard : (left : Outcome → Type 0) (rule : Size → Outcome) {z : Size} → z ≡ yard → left (rule z) → left (rule yard)
+at-yard left rule size = subst left (ap rule size)
 
 -- the step of the outcome at that size, handed back, is the answer of the outcome at document 01's; so is what else it leaves
-pub handed-back : (Leaves : Outcome → Type 0) (rule : Size → Outcome) {z : Size} {step : Step} {r : Answer} → z ≡ yard → r ≡ answer-of-step step
-    → (step ≡ step-of (rule z)) × Leaves (rule z) → (r ≡ answer-of (rule yard)) × Leaves (rule yard)
-handed-back Leaves rule size handed s =
-    (handed ∙ ap answer-of-step (s .0) ∙ ap (λ (z : Size). answer-of (rule z)) size, at-yard Leaves rule size (s .1))
+pub handed-back : (left : Outcome → Type 0) (rule : Size → Outcome) {z : Size} {step : Step} {r : Answer} → z ≡ yard → r ≡ answer-of-step step
+    → Leaves step-of step left (rule z) → Leaves answer-of r left (rule yard)
+handed-back left rule size handed s =
+    (handed ∙ ap answer-of-step (s .0) ∙ ap (λ (z : Size). answer-of (rule z)) size, at-yard left rule size (s .1))

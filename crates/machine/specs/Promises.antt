@@ -8,7 +8,7 @@ use Rattle.rules.specs.Daylog.{commit-total, day-of}
 use Rattle.rules.specs.State.{Outcome, state-of}
 use Rattle.rules.specs.Steps.{begin-rule, write-rule, read-rule, show-rule, commit-rule, give-up-rule, post-rule, order-rule, close-rule}
 use Rattle.rules.specs.Calls.{issued}
-use Rattle.steps.specs.Left.{LogIs, BufferIs, TableAndLog, DraftsAndLog}
+use Rattle.recording.specs.Left.{Leaves, LogIs, BufferIs, TableAndLog, DraftsAndLog}
 use Rattle.machine.specs.declared.books.Books.{Books}
 use Rattle.machine.specs.declared.books.Answer.{Answer}
 use Rattle.machine.specs.declared.call.Call.{Call}
@@ -53,19 +53,19 @@ call-outcome b call value table drafts log numbers = issued yard (lent-to b log 
 
 -- the answer and the log: begin, read, give up, close
 abbrev pub LeavesLog : ℕ → List ℕ → Outcome → Answer → List ℕ → Type 0
-LeavesLog records log o r after = (r ≡ answer-of o) × LogIs records log after o
+LeavesLog records log o r after = Leaves answer-of r (LogIs records log after) o
 
 -- the table too: commit, post
 abbrev pub LeavesTable : ℕ → List ℕ → Outcome → Answer → List ℕ → List ℕ → Type 0
-LeavesTable records log o r table after = (r ≡ answer-of o) × TableAndLog records table log after o
+LeavesTable records log o r table after = Leaves answer-of r (TableAndLog records table log after) o
 
 -- the drafts too: write
 abbrev pub LeavesDrafts : ℕ → List ℕ → Outcome → Answer → List ℕ → List ℕ → Type 0
-LeavesDrafts records log o r drafts after = (r ≡ answer-of o) × DraftsAndLog records drafts log after o
+LeavesDrafts records log o r drafts after = Leaves answer-of r (DraftsAndLog records drafts log after) o
 
 -- the answer and the order buffer: order
 abbrev pub LeavesBuffer : List ℕ → Outcome → Answer → List ℕ → Type 0
-LeavesBuffer numbers o r filled = (r ≡ answer-of o) × BufferIs numbers filled o
+LeavesBuffer numbers o r filled = Leaves answer-of r (BufferIs numbers filled) o
 
 -- all that a call may be lent: any call by value
 abbrev pub LeavesAll : ℕ → List ℕ → List ℕ → Answer → List ℕ → List ℕ → List ℕ → List ℕ → Outcome → Type 0

@@ -10,7 +10,7 @@ ghost use Rattle.machine.specs.Promises.{begin-outcome, write-outcome, r
 use place::change;
 use recording::Step;
 use rules::Place;
-use rules::Size;
+use rules::sizes;
 use sound::whole;
 use steps::ending;
 use steps::looking;
@@ -30,23 +30,13 @@ pub struct Answer {
     pub books: Books,
 }
 
-// Document 01's controller: 32 places, 32 cells.
-pub fn yard_size() -> Size
-    ensures { λ r. ⌜ r ≡ yard ⌝ }
-{
-    Size {
-        places: 32,
-        cells: 32,
-    }
-}
-
 impl Books {
     // Whether the books are sound.
     pub fn is_sound(self) -> bool
         ensures { λ r. ⌜ r ≡ sound yard (view self) ⌝ }
     {
         let places = self.places;
-        whole::are_sound(places, self.records, yard_size())
+        whole::are_sound(places, self.records, sizes::yard_size())
     }
 
     // Open gives books with every place free, turns 0, no records.
@@ -80,7 +70,7 @@ impl Books {
         ensures log { λ r. ⌜ now (log .exit) ≡ log-after (self .records) (begin-outcome self (now (log .entry)) .entry) (now (log .entry)) ⌝ }
     {
         let places = self.places;
-        self.handed(taking::begin(places, self.records, yard_size(), log))
+        self.handed(taking::begin(places, self.records, sizes::yard_size(), log))
     }
 
     // Write puts 8 bytes in the place's draft of that cell and marks the cell written.
@@ -100,7 +90,7 @@ impl Books {
         self.handed(reading::write(
             places,
             self.records,
-            yard_size(),
+            sizes::yard_size(),
             handle,
             cell,
             value,
@@ -118,7 +108,7 @@ impl Books {
         self.handed(reading::read(
             places,
             self.records,
-            yard_size(),
+            sizes::yard_size(),
             handle,
             cell,
             table,
@@ -140,7 +130,7 @@ impl Books {
         ensures place { λ r. ⌜ ptr r ≡ shown-at (ptr (drafts .entry)) (ptr (table .entry)) (show-outcome self given handle cell (now (drafts .entry)) (now (table .entry)) .shown) ⌝ }
     {
         let places = self.places;
-        let z = yard_size();
+        let z = sizes::yard_size();
         looking::show(places, self.records, z, given, handle, cell, drafts, table)
     }
 
@@ -154,7 +144,7 @@ impl Books {
         self.handed(ending::commit(
             places,
             self.records,
-            yard_size(),
+            sizes::yard_size(),
             handle,
             table,
             drafts,
@@ -168,7 +158,7 @@ impl Books {
         ensures log { λ r. ⌜ now (log .exit) ≡ log-after (self .records) (give-up-outcome self handle (now (log .entry)) .entry) (now (log .entry)) ⌝ }
     {
         let places = self.places;
-        self.handed(ending::give_up(places, self.records, yard_size(), handle, log))
+        self.handed(ending::give_up(places, self.records, sizes::yard_size(), handle, log))
     }
 
     // Post is begin, write and commit in one record; it writes the table and answers the handle.
@@ -178,7 +168,15 @@ impl Books {
         ensures log { λ r. ⌜ now (log .exit) ≡ log-after (self .records) (post-outcome self cell (now (value .entry)) (now (table .entry)) (now (log .entry)) .entry) (now (log .entry)) ⌝ }
     {
         let places = self.places;
-        self.handed(taking::post(places, self.records, yard_size(), cell, value, table, log))
+        self.handed(taking::post(
+            places,
+            self.records,
+            sizes::yard_size(),
+            cell,
+            value,
+            table,
+            log,
+        ))
     }
 
     // Order answers a count and puts the transaction's order into the first numbers of the order buffer, as begin records.
@@ -187,7 +185,7 @@ impl Books {
         ensures numbers { λ r. ⌜ now (numbers .exit) ≡ buffer-after (order-outcome self handle (now (numbers .entry)) .order) (now (numbers .entry)) ⌝ }
     {
         let places = self.places;
-        self.handed(looking::order(places, self.records, yard_size(), handle, numbers))
+        self.handed(looking::order(places, self.records, sizes::yard_size(), handle, numbers))
     }
 
     // Close writes the trailer just after the last record, frees every place, keeps turns, sets records to 0.
@@ -196,6 +194,6 @@ impl Books {
         ensures log { λ r. ⌜ now (log .exit) ≡ log-after (self .records) (close-outcome self (now (log .entry)) .entry) (now (log .entry)) ⌝ }
     {
         let places = self.places;
-        self.handed(ending::close(places, self.records, yard_size(), log))
+        self.handed(ending::close(places, self.records, sizes::yard_size(), log))
     }
 }

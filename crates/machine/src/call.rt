@@ -8,10 +8,11 @@ ghost use Rattle.rules.specs.Steps.{open-rule, show-reasons};
 ghost use Rattle.rules.specs.State.{state-of, log-after, buffer-after};
 ghost use Rattle.machine.specs.View.{view, answer-of};
 ghost use Rattle.machine.specs.Promises.{call-outcome};
-use crate::books;
 use crate::books::Answer;
 use crate::books::Books;
 use reasons::asked;
+use rules::numbers::GRANTED;
+use rules::sizes;
 
 // Which call it is.
 pub enum Kind {
@@ -40,7 +41,7 @@ fn opened() -> Answer
     ensures { λ r. ⌜ r ≡ answer-of (open-rule (state-of opened [] [])) ⌝ }
 {
     Answer {
-        number: 0,
+        number: GRANTED,
         answer: 0,
         books: Books::open(),
     }
@@ -54,7 +55,7 @@ fn looked(from: Books, call: Call, table: usize, drafts: usize) -> Answer
     let number = asked::of_show(
         places,
         from.records,
-        books::yard_size(),
+        sizes::yard_size(),
         call.given,
         call.handle,
         call.cell,

@@ -6,6 +6,10 @@ use libc::STDOUT_FILENO;
 use machine::books::Books;
 use machine::call;
 use machine::call::Call;
+use rules::sizes::DRAFTS_BYTES;
+use rules::sizes::LOG_BYTES;
+use rules::sizes::ORDER_NUMBERS;
+use rules::sizes::TABLE_BYTES;
 use script::lines;
 use script::numbers;
 use script::words;
@@ -130,7 +134,7 @@ fn play_line(
     if lines::TABLE <= line.kind {
         return books;
     }
-    let mut order = [0u16; 32];
+    let mut order = [0u16; ORDER_NUMBERS];
     let answer = making::make(books, line, content, table, drafts, log, &mut order);
     answer.books
 }
@@ -167,7 +171,7 @@ fn repeat_line(
 ) -> Told {
     let content = words::content(text);
     let line = lines::parse(content);
-    let mut order = [0u16; 32];
+    let mut order = [0u16; ORDER_NUMBERS];
     let mut value = [0u8; 128];
     if lines::TABLE <= line.kind {
         return no_round(books);
@@ -187,9 +191,9 @@ fn repeat_line(
 
 // Makes the calls before the last one, which starts at a place, and then does the rounds.
 fn measure(kind: u8, rounds: u64, script: &[u8], last: usize) -> Told {
-    let mut table = [0u8; 256];
-    let mut drafts = [0u8; 8192];
-    let mut log = [0u8; 64016];
+    let mut table = [0u8; TABLE_BYTES];
+    let mut drafts = [0u8; DRAFTS_BYTES];
+    let mut log = [0u8; LOG_BYTES];
     let books = play_all(
         Books::open(),
         buffer::front(script, last),

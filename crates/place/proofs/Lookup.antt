@@ -13,7 +13,7 @@ use Rattle.rules.specs.declared.Place.{Place}
 use Rattle.rules.specs.declared.Size.{Size}
 use Rattle.rules.specs.Sizes.{handles}
 use Rattle.rules.specs.Numbers.{stale}
-use Rattle.rules.specs.Handles.{Caller, gate, gate-committed, out-of-range, looked-up, place-of, turn-of}
+use Rattle.rules.specs.Handles.{Caller, asks-live, gate, out-of-range, looked-up, place-of, turn-of}
 use Rattle.place.specs.Calls.{caller}
 
 -- ---- the table
@@ -30,7 +30,7 @@ row-right : ℕ → Bool
 row-right call = allBelow (entry-right call) 3
 
 entries-right : allBelow row-right 5 ≡ true
-unfolding allBelow row-right entry-right gate gate-committed caller
+unfolding allBelow row-right entry-right gate asks-live caller
 entries-right = refl
 
 pub table-says : (call status : ℕ) → call < 5 → status ≤ 2 → getD (getD table call []) status 0 ≡ gate (caller call) status

@@ -5,6 +5,9 @@ ghost use Rattle.rules.specs.Sizes.{width};
 ghost use Rattle.rules.specs.Books.{blank, freed, begun, posted, marked, first-kept, read-marked, sealed};
 use crate::handle;
 use rules::Place;
+use rules::statuses::COMMITTED;
+use rules::statuses::FREE;
+use rules::statuses::LIVE;
 
 // A free place: zero in all but the turn.
 pub fn cleared(turn: u16) -> Place
@@ -12,7 +15,7 @@ pub fn cleared(turn: u16) -> Place
 {
     Place {
         turn,
-        status: 0,
+        status: FREE,
         begin: 0,
         commit: 0,
         written: [false; 32],
@@ -33,7 +36,7 @@ pub fn begin(p: Place, n: u16) -> Place
     ensures { λ r. ⌜ r ≡ begun p n ⌝ }
 {
     let mut begun = cleared(handle::next_turn(p.turn));
-    begun.status = 1;
+    begun.status = LIVE;
     begun.begin = n;
     begun
 }
@@ -44,7 +47,7 @@ pub fn post(p: Place, cell: usize, n: u16) -> Place
     ensures { λ r. ⌜ r ≡ posted p cell n ⌝ }
 {
     let mut posted = cleared(handle::next_turn(p.turn));
-    posted.status = 2;
+    posted.status = COMMITTED;
     posted.begin = n;
     posted.commit = n;
     posted.written[cell] = true;
@@ -85,7 +88,7 @@ pub fn commit(p: Place, n: u16) -> Place
     ensures { λ r. ⌜ r ≡ sealed p n ⌝ }
 {
     let mut sealed = p;
-    sealed.status = 2;
+    sealed.status = COMMITTED;
     sealed.commit = n;
     sealed
 }

@@ -7,6 +7,9 @@ ghost use Rattle.place.specs.Calls.{caller};
 use crate::handle;
 use rules::Place;
 use rules::Size;
+use rules::numbers::ENDED;
+use rules::numbers::GRANTED;
+use rules::numbers::STALE;
 
 // The five calls that take a handle, as rows of the table.
 pub const READS: usize = 0;
@@ -19,8 +22,14 @@ pub const GIVES_UP: usize = 3;
 
 pub const ORDERS: usize = 4;
 
-// By call and status: 0 goes on, 3 Stale, 4 Ended.
-const GATE: [[u8; 3]; 5] = [[3, 0, 4], [3, 0, 4], [3, 0, 4], [3, 0, 4], [3, 0, 0]];
+// By call and status (free, live, committed): goes on, Stale or Ended.
+const GATE: [[u8; 3]; 5] = [
+    [STALE, GRANTED, ENDED], // read
+    [STALE, GRANTED, ENDED], // write
+    [STALE, GRANTED, ENDED], // commit
+    [STALE, GRANTED, ENDED], // give up
+    [STALE, GRANTED, GRANTED], // order
+];
 
 // What the table says of a call at a place of that status.
 pub fn passes(call: usize, status: u8) -> u8
@@ -36,10 +45,10 @@ pub fn lookup(p: Place, z: Size, call: usize, handle: u32) -> u8
     ensures { λ r. ⌜ r ≡ looked-up z (caller call) p handle ⌝ }
 {
     if handle::is_out_of_range(handle, z) {
-        return 3;
+        return STALE;
     }
     if p.turn as u32 != handle::turn_of(handle) {
-        return 3;
+        return STALE;
     }
     passes(call, p.status)
 }

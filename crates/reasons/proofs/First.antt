@@ -27,11 +27,6 @@ module _ (n : ℕ) {answer test : Bool} (says : answer ≡ test) where
   unfolding first-reason
   is-last e = is-next [] e refl
 
--- the later reasons count only if the first does not apply
-pub same-later : (r : Reason) (one other : List Reason) → (r .applies ≡ false → first-reason one ≡ first-reason other) → first-reason (r ∷ one) ≡ first-reason (r ∷ other)
-unfolding first-reason
-same-later r one other same = split (r .applies) (λ t. rw t) (λ f. rw f (same f))
-
 -- ---- a run of tests
 
 -- a run that has a number other than 0 gives it

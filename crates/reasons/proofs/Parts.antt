@@ -1,29 +1,26 @@
 -- What is asked, part by part: lengths, books, handle, cell, a free place, the log's room, live ones. Rests on the laws of handles and of soundness.
-use Prim.Native.Nat.{ℕ, zero, suc, _<_, _≤_, _+_}
+use Prim.Native.Nat.{ℕ, _<_, _≤_, _+_}
 use mathlib.Core.Path.{_≡_, refl, sym, _∙_, ap}
 use mathlib.Core.Logic.{_≢_}
 use mathlib.Core.Bool.{Bool, true, false, not, _||_}
 use mathlib.Core.List.{List, [], _∷_}
-use lib.Dec.{leb}
 use native.Mathlib.Omega.{arith}
-use borrow.Author.Tests.{eq-eqb, ne-eqb, lt-ltb, le-ltb, le-leb, lt-leb, leb-false, not-false}
+use borrow.Author.Tests.{eq-eqb, ne-eqb, lt-ltb, le-ltb, le-leb, lt-leb, not-false}
 use Rattle.basics.specs.Below.{anyBelow}
-use Rattle.basics.specs.Lists.{allIn, anyIn}
-use Rattle.basics.proofs.Bools.{or-false-left, or-false-right}
+use Rattle.basics.specs.Lists.{allIn}
 use Rattle.basics.proofs.Below.{count-at-most, any-counted, none-counted}
 use Rattle.rules.specs.declared.Size.{Size}
-use Rattle.rules.specs.Sizes.{handles, most-records}
-use Rattle.rules.specs.Books.{Books, of-places, place-at, is-live, lowest-free, no-free, live-count, room-taken}
-use Rattle.rules.specs.Handles.{place-of, out-of-range, is-stale, Caller, orders, looked-up}
-use Rattle.rules.specs.Numbers.{granted, unsound, stale, no-cell, full, log-full, busy, Reason, _if_, first-reason, wrong}
+use Rattle.rules.specs.Sizes.{most-records}
+use Rattle.rules.specs.Books.{Books, of-places, place-at, is-live, lowest-free, no-free, live-count}
+use Rattle.rules.specs.Handles.{place-of, Caller, looked-up}
+use Rattle.rules.specs.Numbers.{granted, unsound, no-cell, full, log-full, busy, Reason, _if_, first-reason, wrong}
 use Rattle.rules.specs.Sound.{sound}
 use Rattle.rules.specs.Steps.{soundness-reason, handle-reasons, cell-reason, handle-cell-reasons, room-reason}
-use Rattle.rules.proofs.Handles.{StatusKnown, looked-up-reasons, looked-up-order}
-use Rattle.rules.proofs.Reasons.{none-applies}
+use Rattle.rules.proofs.Asked.{none-after, status-asked, good-asked, held-asked}
+use Rattle.rules.proofs.Handles.{StatusKnown, looked-up-reasons}
 use Rattle.rules.proofs.Shape.{free-by-places, live-by-places}
 use Rattle.rules.proofs.Sound.{sound-says}
-use Rattle.place.specs.Calls.{caller}
-use Rattle.reasons.proofs.First.{is-first, is-next, is-last, same-later, Numbered}
+use Rattle.reasons.proofs.First.{is-first, is-next, is-last, Numbered}
 
 -- ---- 1: lengths
 
@@ -55,16 +52,18 @@ module _ (z : Size) (c : ℕ) where
   unfolding allIn cell-reason
   cell-numbered = refl
 
--- ---- the books, and what is asked of them
+-- ---- 7: the log's room
 
--- the first four calls on a handle are no orders
-not-orders : (call : ℕ) → call < 4 → caller call ≢ orders
-unfolding caller
-not-orders zero few e = let one : _≡_ {A = ℕ} 0 1 = cc in omega arith
-not-orders (suc zero) few e = let one : _≡_ {A = ℕ} 0 1 = cc in omega arith
-not-orders (suc (suc zero)) few e = let one : _≡_ {A = ℕ} 0 1 = cc in omega arith
-not-orders (suc (suc (suc zero))) few e = let one : _≡_ {A = ℕ} 0 1 = cc in omega arith
-not-orders (suc (suc (suc (suc n)))) few e = omega arith
+module _ (records-after live-after : ℕ) where
+  pub room-first : most-records < records-after + live-after → log-full ≡ first-reason (room-reason records-after live-after ∷ [])
+  unfolding room-reason
+  room-first e = is-first log-full (sym (lt-ltb most-records (records-after + live-after) e)) [] refl
+
+  pub room-last : records-after + live-after ≤ most-records → granted ≡ first-reason (room-reason records-after live-after ∷ [])
+  unfolding room-reason
+  room-last e = is-last log-full (sym (le-ltb most-records (records-after + live-after) e)) refl
+
+-- ---- the books, and what is asked of them
 
 module _ (z : Size) (b : Books) where
   -- ---- 2: the books
@@ -78,68 +77,36 @@ module _ (z : Size) (b : Books) where
     unfolding soundness-reason
     sound-next e h = is-next unsound (ap not says) later (ap not e) h
 
-  -- ---- 3 and 4: the handle
+  -- ---- 2 to 4: the books and the handle
 
-  module _ (h : ℕ) where
-    -- a handle in range names one of the places
-    in-range : out-of-range z h ≡ false → place-of h < z .places
-    unfolding out-of-range
-    in-range e = leb-false (z .places) (place-of h) (or-false-right (leb handles h) (leb (z .places) (place-of h)) e)
-
-    module _ {i : ℕ} (named : i ≡ place-of h) where
-      -- in sound books a handle names a place of a known status
-      pub status-known : sound z b ≡ true → StatusKnown z (place-at b i) h
-      status-known e near = rw named (sound-says z b .0 e .each (place-of h) (in-range near) .status-known)
-
-      -- what is looked up at the place that the handle names, as a reason
-      pub gate-asked : (c : Caller) {n : ℕ} → n ≡ looked-up z c (place-at b i) h → n ≡ first-reason ((looked-up z c (place-at b (place-of h)) h if true) ∷ [])
-      unfolding first-reason
-      gate-asked c e = e ∙ rw named
-
-    -- ---- 2 to 4: the books and the handle, as runs
-
-    -- 2, and then what is looked up
-    abbrev lookup-run : Caller → List Reason
-    lookup-run c = soundness-reason z b ∷ (looked-up z c (place-at b (place-of h)) h if true) ∷ []
-
-    -- 2, 3 and 4; and 2 and 3, for an order
+  module _ (who : Caller) (h : ℕ) where
     abbrev pub handle-run : List Reason
-    handle-run = soundness-reason z b ∷ handle-reasons z b h
-
-    abbrev pub order-run : List Reason
-    order-run = soundness-reason z b ∷ (stale if is-stale z b h) ∷ []
+    handle-run = soundness-reason z b ∷ handle-reasons z who b h
 
     pub handle-numbered : Numbered handle-run
     unfolding allIn soundness-reason handle-reasons
     handle-numbered = refl
 
-    pub order-numbered : Numbered order-run
-    unfolding allIn soundness-reason
-    order-numbered = refl
+    module _ {i : ℕ} (named : i ≡ place-of h) (e : sound z b ≡ true) where
+      -- in sound books a handle names a place of a known status
+      pub status-known : StatusKnown z (place-at b i) h
+      status-known = rw named (status-asked z b h (sound-says z b .0 e))
 
-    -- in sound books the lookup settles what comes after the books, if it says the same as the reasons
-    settled : (c : Caller) (reasons : List Reason) → (StatusKnown z (place-at b (place-of h)) h → looked-up z c (place-at b (place-of h)) h ≡ first-reason reasons) → first-reason (lookup-run c) ≡ first-reason (soundness-reason z b ∷ reasons)
+      -- and what is looked up at that place is the first of the handle's reasons
+      pub handle-asked : {n : ℕ} → n ≡ looked-up z who (place-at b i) h → n ≡ first-reason (handle-reasons z who b h)
+      handle-asked says = says ∙ ap (λ k. looked-up z who (place-at b k) h) named ∙ looked-up-reasons z b h (status-asked z b h (sound-says z b .0 e)) who
+
+    -- where none of 2 to 4 applies, the handle names one of the places
+    pub handle-named : {n : ℕ} → n ≡ first-reason handle-run → n ≡ granted → place-of h < z .places
     unfolding soundness-reason
-    settled c reasons says =
-        same-later (soundness-reason z b) ((looked-up z c (place-at b (place-of h)) h if true) ∷ []) reasons (λ f. sym (gate-asked refl c refl) ∙ says (status-known refl (not-false (sound z b) f)))
-
-    -- for a read, write, commit or give up these are 3 and 4, and for an order 3
-    pub handle-looked-up : (call : ℕ) → call < 4 → {n : ℕ} → n ≡ first-reason (lookup-run (caller call)) → n ≡ first-reason handle-run
-    handle-looked-up call few e = e ∙ settled (caller call) (handle-reasons z b h) (λ known. looked-up-reasons z b h known (caller call) (not-orders call few))
-
-    pub order-looked-up : {n : ℕ} → n ≡ first-reason (lookup-run (caller 4)) → n ≡ first-reason order-run
-    unfolding caller
-    order-looked-up e = e ∙ settled orders ((stale if is-stale z b h) ∷ []) (λ known. looked-up-order z b h known)
-
-    -- where neither 2 nor 3 applies, the handle names one of the places
-    pub order-named : {n : ℕ} → n ≡ first-reason order-run → n ≡ granted → place-of h < z .places
-    unfolding anyIn soundness-reason is-stale
-    order-named e none =
-        in-range (or-false-left (out-of-range z h) _ (or-false-left (is-stale z b h) false (or-false-right (not (sound z b)) _ (none-applies order-run order-numbered (sym e ∙ none)))))
+    handle-named e none =
+        let two = none-after (soundness-reason z b) (handle-reasons z who b h) (omega arith) (sym e ∙ none) in
+        let s = sound-says z b .0 (not-false (sound z b) (two .0)) in
+        held-asked z b h s (good-asked z b h s who (two .1)) .place
 
     -- ---- 2 to 5: the books, the handle and the cell
 
-    pub handle-cell-numbered : (c : ℕ) → Numbered (handle-cell-reasons z b h c)
+    pub handle-cell-numbered : (c : ℕ) → Numbered (handle-cell-reasons z who b h c)
     unfolding allIn handle-cell-reasons soundness-reason handle-reasons cell-reason
     handle-cell-numbered c = refl
 
@@ -154,21 +121,15 @@ module _ (z : Size) (b : Books) where
     unfolding no-free
     full-next other h = is-next full (sym (ne-eqb (lowest-free z b) (z .places) (λ e. other (says ∙ free-by-places z b ∙ e)))) later refl h
 
-  -- ---- 7 and 8: the live ones
+  -- ---- 8: the live ones
 
   pub live-at-most : live-count z (of-places (b .places)) ≤ z .places
   unfolding live-count
   live-at-most = count-at-most (λ i. is-live (place-at b i)) (z .places)
 
   module _ {live : ℕ} (says : live ≡ live-count z (of-places (b .places))) where
-    pub room-first : (more : ℕ) → most-records < b .records + live + more → log-full ≡ first-reason (room-reason z b more ∷ [])
-    unfolding room-reason room-taken
-    room-first more e =
-        is-first log-full (sym (lt-ltb most-records (b .records + live-count z b + more) (omega (arith, live-by-places z b)))) [] refl
-
-    pub room-last : (more : ℕ) → b .records + live + more ≤ most-records → granted ≡ first-reason (room-reason z b more ∷ [])
-    unfolding room-reason room-taken
-    room-last more e = is-last log-full (sym (le-ltb most-records (b .records + live-count z b + more) (omega (arith, live-by-places z b)))) refl
+    pub live-seen : live ≡ live-count z b
+    live-seen = says ∙ live-by-places z b
 
     -- a live transaction
     abbrev some-live : Bool

@@ -10,6 +10,12 @@ use place::gate;
 use place::handle;
 use rules::Place;
 use rules::Size;
+use rules::numbers::BUSY;
+use rules::numbers::GRANTED;
+use rules::numbers::LENT;
+use rules::numbers::UNSOUND;
+use rules::sizes::CELL_BYTES;
+use rules::sizes::LOG_BYTES;
 use sound::whole;
 use survey::search;
 
@@ -18,13 +24,13 @@ pub fn of_begin(places: [Place; 32], records: u16, z: Size, log: usize) -> u8
     requires { ⌜ Within z ⌝ }
     ensures { λ r. ⌜ r ≡ first-reason (begin-reasons z log (books-of records places)) ⌝ }
 {
-    if log != 64016 {
-        return 1;
+    if log != LOG_BYTES {
+        return LENT;
     }
     if !whole::are_sound(places, records, z) {
-        return 2;
+        return UNSOUND;
     }
-    shared::of_free(places, records, z, 2)
+    shared::of_free(places, records, z, search::live_count_of(places, z) + 1)
 }
 
 // Write: 1, 2, 3, 4, 5, 7.
@@ -41,8 +47,15 @@ pub fn of_write(
     requires { ⌜ Within z ⌝ }
     ensures { λ r. ⌜ r ≡ first-reason (write-reasons z value drafts log (books-of records places) handle cell) ⌝ }
 {
-    if shared::any_wrong(value, 8, drafts, shared::drafts_bytes(z), log, 64016) {
-        return 1;
+    if shared::any_wrong(
+        value,
+        CELL_BYTES,
+        drafts,
+        shared::drafts_bytes(z),
+        log,
+        LOG_BYTES,
+    ) {
+        return LENT;
     }
     shared::of_access(places, records, z, gate::WRITES, handle, cell)
 }
@@ -67,9 +80,9 @@ pub fn of_read(
         drafts,
         shared::drafts_bytes(z),
         log,
-        64016,
+        LOG_BYTES,
     ) {
-        return 1;
+        return LENT;
     }
     shared::of_access(places, records, z, gate::READS, handle, cell)
 }
@@ -88,7 +101,7 @@ pub fn of_show(
     requires { ⌜ Within z ⌝ }
     ensures { λ r. ⌜ r ≡ first-reason (show-reasons z table drafts (books-of records places) given handle cell) ⌝ }
 {
-    if given != 0 {
+    if given != GRANTED {
         return given;
     }
     if shared::either_wrong(
@@ -97,7 +110,7 @@ pub fn of_show(
         drafts,
         shared::drafts_bytes(z),
     ) {
-        return 1;
+        return LENT;
     }
     shared::of_handle_and_cell(places, records, z, gate::READS, handle, cell)
 }
@@ -121,9 +134,9 @@ pub fn of_commit(
         drafts,
         shared::drafts_bytes(z),
         log,
-        64016,
+        LOG_BYTES,
     ) {
-        return 1;
+        return LENT;
     }
     shared::of_handle(places, records, z, gate::COMMITS, handle)
 }
@@ -133,8 +146,8 @@ pub fn of_give_up(places: [Place; 32], records: u16, z: Size, handle: u32, log: 
     requires { ⌜ Within z ⌝ }
     ensures { λ r. ⌜ r ≡ first-reason (give-up-reasons z log (books-of records places) handle) ⌝ }
 {
-    if log != 64016 {
-        return 1;
+    if log != LOG_BYTES {
+        return LENT;
     }
     shared::of_handle(places, records, z, gate::GIVES_UP, handle)
 }
@@ -152,17 +165,24 @@ pub fn of_post(
     requires { ⌜ Within z ⌝ }
     ensures { λ r. ⌜ r ≡ first-reason (post-reasons z value table log (books-of records places) cell) ⌝ }
 {
-    if shared::any_wrong(value, 8, table, shared::table_bytes(z), log, 64016) {
-        return 1;
+    if shared::any_wrong(
+        value,
+        CELL_BYTES,
+        table,
+        shared::table_bytes(z),
+        log,
+        LOG_BYTES,
+    ) {
+        return LENT;
     }
     if !whole::are_sound(places, records, z) {
-        return 2;
+        return UNSOUND;
     }
     let number = shared::of_cell(cell, z);
-    if number != 0 {
+    if number != GRANTED {
         return number;
     }
-    shared::of_free(places, records, z, 1)
+    shared::of_free(places, records, z, search::live_count_of(places, z))
 }
 
 // Order: 1, 2, 3, then 2 for a cycle in the company.
@@ -171,16 +191,16 @@ pub fn of_order(places: [Place; 32], records: u16, z: Size, handle: u32, numbers
     ensures { λ r. ⌜ r ≡ first-reason (order-reasons z numbers (books-of records places) handle) ⌝ }
 {
     if numbers != z.places {
-        return 1;
+        return LENT;
     }
-    let number = shared::of_lookup(places, records, z, gate::ORDERS, handle);
-    if number != 0 {
+    let number = shared::of_handle(places, records, z, gate::ORDERS, handle);
+    if number != GRANTED {
         return number;
     }
     if verdict::is_conflict(places, handle::place_of(handle), z) {
-        2
+        UNSOUND
     } else {
-        0
+        GRANTED
     }
 }
 
@@ -189,15 +209,15 @@ pub fn of_close(places: [Place; 32], records: u16, z: Size, log: usize) -> u8
     requires { ⌜ Within z ⌝ }
     ensures { λ r. ⌜ r ≡ first-reason (close-reasons z log (books-of records places)) ⌝ }
 {
-    if log != 64016 {
-        return 1;
+    if log != LOG_BYTES {
+        return LENT;
     }
     if !whole::are_sound(places, records, z) {
-        return 2;
+        return UNSOUND;
     }
     if search::live_count_of(places, z) != 0 {
-        8
+        BUSY
     } else {
-        0
+        GRANTED
     }
 }

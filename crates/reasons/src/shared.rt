@@ -1,11 +1,10 @@
 // Reasons that several calls share.
 ghost use mathlib.Core.Path.{_≡_};
 ghost use mathlib.Core.List.{[], _∷_, _++_};
-ghost use Prim.Native.Nat.{_<_, _≤_};
-ghost use mathlib.Core.Bool.{true, _||_};
+ghost use Prim.Native.Nat.{_<_, _+_};
+ghost use mathlib.Core.Bool.{_||_};
 ghost use Rattle.rules.specs.Sizes.{Within, table-bytes, drafts-bytes};
-ghost use Rattle.rules.specs.Books.{books-of, place-at, no-free};
-ghost use Rattle.rules.specs.Handles.{place-of, looked-up};
+ghost use Rattle.rules.specs.Books.{books-of, no-free, live-count};
 ghost use Rattle.rules.specs.Numbers.{full, _if_, first-reason, wrong};
 ghost use Rattle.rules.specs.Steps.{soundness-reason, handle-reasons, handle-cell-reasons, cell-reason, room-reason};
 ghost use Rattle.place.specs.Calls.{caller};
@@ -13,6 +12,13 @@ use place::gate;
 use place::handle;
 use rules::Place;
 use rules::Size;
+use rules::numbers::FULL;
+use rules::numbers::GRANTED;
+use rules::numbers::LOG_FULL;
+use rules::numbers::NO_CELL;
+use rules::numbers::UNSOUND;
+use rules::sizes::CELL_BYTES;
+use rules::sizes::MOST_RECORDS;
 use sound::whole;
 use survey::search;
 
@@ -21,7 +27,7 @@ pub fn table_bytes(z: Size) -> usize
     requires { ⌜ Within z ⌝ }
     ensures { λ r. ⌜ r ≡ table-bytes z ⌝ }
 {
-    8 * z.cells
+    CELL_BYTES * z.cells
 }
 
 // The drafts' length in bytes.
@@ -29,7 +35,7 @@ pub fn drafts_bytes(z: Size) -> usize
     requires { ⌜ Within z ⌝ }
     ensures { λ r. ⌜ r ≡ drafts-bytes z ⌝ }
 {
-    8 * (z.places * z.cells)
+    CELL_BYTES * (z.places * z.cells)
 }
 
 // Whether one of two lengths is wrong: a should be x, and b should be y.
@@ -46,25 +52,16 @@ pub fn any_wrong(a: usize, x: usize, b: usize, y: usize, c: usize, w: usize) -> 
     a != x || either_wrong(b, y, c, w)
 }
 
-// 2, or what a call on a handle meets at the gate.
-pub fn of_lookup(places: [Place; 32], records: u16, z: Size, call: usize, handle: u32) -> u8
-    requires { ⌜ Within z ⌝ }
-    requires { ⌜ call < 5 ⌝ }
-    ensures { λ r. ⌜ r ≡ first-reason (soundness-reason z (books-of records places) ∷ (looked-up z (caller call) (place-at (books-of records places) (place-of handle)) handle if true) ∷ []) ⌝ }
-{
-    if !whole::are_sound(places, records, z) {
-        return 2;
-    }
-    gate::lookup(places[handle::place_of(handle)], z, call, handle)
-}
-
-// 2, 3 and 4: the books and the handle of a read, write, commit or give up.
+// 2, 3 and 4: the books and the handle, for each of the five calls that take one.
 pub fn of_handle(places: [Place; 32], records: u16, z: Size, call: usize, handle: u32) -> u8
     requires { ⌜ Within z ⌝ }
-    requires { ⌜ call < 4 ⌝ }
-    ensures { λ r. ⌜ r ≡ first-reason (soundness-reason z (books-of records places) ∷ handle-reasons z (books-of records places) handle) ⌝ }
+    requires { ⌜ call < 5 ⌝ }
+    ensures { λ r. ⌜ r ≡ first-reason (soundness-reason z (books-of records places) ∷ handle-reasons z (caller call) (books-of records places) handle) ⌝ }
 {
-    of_lookup(places, records, z, call, handle)
+    if !whole::are_sound(places, records, z) {
+        return UNSOUND;
+    }
+    gate::lookup(places[handle::place_of(handle)], z, call, handle)
 }
 
 // 5: the cell.
@@ -72,7 +69,11 @@ pub fn of_cell(cell: u32, z: Size) -> u8
     requires { ⌜ Within z ⌝ }
     ensures { λ r. ⌜ r ≡ first-reason (cell-reason z cell ∷ []) ⌝ }
 {
-    if z.cells <= cell as usize { 5 } else { 0 }
+    if z.cells <= cell as usize {
+        NO_CELL
+    } else {
+        GRANTED
+    }
 }
 
 // 2 to 5: the books, the handle and the cell of a read, write or show.
@@ -85,39 +86,36 @@ pub fn of_handle_and_cell(
     cell: u32,
 ) -> u8
     requires { ⌜ Within z ⌝ }
-    requires { ⌜ call < 4 ⌝ }
-    ensures { λ r. ⌜ r ≡ first-reason (handle-cell-reasons z (books-of records places) handle cell) ⌝ }
+    requires { ⌜ call < 5 ⌝ }
+    ensures { λ r. ⌜ r ≡ first-reason (handle-cell-reasons z (caller call) (books-of records places) handle cell) ⌝ }
 {
     let number = of_handle(places, records, z, call, handle);
-    if number != 0 {
+    if number != GRANTED {
         return number;
     }
     of_cell(cell, z)
 }
 
-// 7: room in the log for so many more records and live transactions.
-pub fn of_room(places: [Place; 32], records: u16, z: Size, more: u32) -> u8
-    requires { ⌜ Within z ⌝ }
-    requires { ⌜ more ≤ 2 ⌝ }
-    ensures { λ r. ⌜ r ≡ first-reason (room-reason z (books-of records places) more ∷ []) ⌝ }
+// 7: so many records after the call and live ones after it pass 4,000.
+pub fn of_room(records: u32, live: u32) -> u8
+    ensures { λ r. ⌜ r ≡ first-reason (room-reason records live ∷ []) ⌝ }
 {
-    if 4000 < records as u32 + search::live_count_of(places, z) + more {
-        7
+    if MOST_RECORDS < records as usize + live as usize {
+        LOG_FULL
     } else {
-        0
+        GRANTED
     }
 }
 
-// 6 and 7: a free place, and room in the log for so many more.
-pub fn of_free(places: [Place; 32], records: u16, z: Size, more: u32) -> u8
+// 6 and 7: a free place, and room in the log for one record more and so many live ones after the call.
+pub fn of_free(places: [Place; 32], records: u16, z: Size, live: u32) -> u8
     requires { ⌜ Within z ⌝ }
-    requires { ⌜ more ≤ 2 ⌝ }
-    ensures { λ r. ⌜ r ≡ first-reason ((full if no-free z (books-of records places)) ∷ room-reason z (books-of records places) more ∷ []) ⌝ }
+    ensures { λ r. ⌜ r ≡ first-reason ((full if no-free z (books-of records places)) ∷ room-reason (records + 1) live ∷ []) ⌝ }
 {
     if search::lowest_free_of(places, z) == z.places {
-        return 6;
+        return FULL;
     }
-    of_room(places, records, z, more)
+    of_room(records as u32 + 1, live)
 }
 
 // 2 to 5 and 7: the books, the handle, the cell and the log's room of a read or write.
@@ -130,12 +128,12 @@ pub fn of_access(
     cell: u32,
 ) -> u8
     requires { ⌜ Within z ⌝ }
-    requires { ⌜ call < 4 ⌝ }
-    ensures { λ r. ⌜ r ≡ first-reason (handle-cell-reasons z (books-of records places) handle cell ++ (room-reason z (books-of records places) 1 ∷ [])) ⌝ }
+    requires { ⌜ call < 5 ⌝ }
+    ensures { λ r. ⌜ r ≡ first-reason (handle-cell-reasons z (caller call) (books-of records places) handle cell ++ (room-reason (records + 1) (live-count z (books-of records places)) ∷ [])) ⌝ }
 {
     let number = of_handle_and_cell(places, records, z, call, handle, cell);
-    if number != 0 {
+    if number != GRANTED {
         return number;
     }
-    of_room(places, records, z, 1)
+    of_room(records as u32 + 1, search::live_count_of(places, z))
 }

@@ -18,11 +18,12 @@ use Rattle.rules.specs.State.{state-of, adds, closes, log-after, buffer-after, 
 use Rattle.rules.specs.Steps.{record-at, Judged, books-granted, granted-of, turned-back, meets-conflict, judged-of, begin-of, write-of, own-read-of, judged-read-of, read-of, give-up-of, post-of, order-of, close-of}
 use Rattle.rules.proofs.Judging.{cycle-by-places, order-by-places, order-length}
 use Rattle.recording.specs.declared.Step.{Step}
+use Rattle.recording.specs.Left.{Leaves, LogIs}
 use Rattle.recording.specs.Stepped.{step-of, changed-step}
 
 -- the step and the log after it are those of an outcome
 abbrev pub Meets : ℕ → Outcome → Step → List ℕ → List ℕ → Type 0
-Meets records o step log after = (step ≡ step-of o) × (after ≡ log-after records (o .entry) log)
+Meets records o step log after = Leaves step-of step (LogIs records log after) o
 
 module _ (records : ℕ) (places : List Place) (log : List ℕ) {i : ℕ} {p : Place} {step : Step} {after : List ℕ} where
   -- begin and post: the lowest free place is taken, and its handle answered

@@ -1,25 +1,25 @@
--- What is known when no reason applies, call by call, over any books and lengths. Rests on what the tests of soundness and of handles say.
+-- What is known when no reason applies, call by call, over any books and lengths, and what a good handle says. Rests on what the tests of soundness and of handles say.
 -- Assumes nothing.
 use Prim.Native.Nat.{ℕ, _+_, _≤_, _<_}
-use mathlib.Core.Path.{_≡_, refl, sym, _∙_}
+use mathlib.Core.Path.{_≡_, refl, sym, _∙_, ap}
 use mathlib.Core.Bool.{true, false, not, _||_}
 use mathlib.Core.List.{List, [], _∷_, _++_, append-nil}
 use lib.Dec.{ltb, leb, eqb}
 use native.Mathlib.Omega.{arith}
-use borrow.Author.Tests.{ltb-true, ltb-false, leb-false, eqb-true, eqb-false, eq-eqb, ne-eqb, not-false}
+use borrow.Author.Tests.{ltb-true, ltb-false, leb-false, eqb-true, eqb-false, eq-eqb, ne-eqb, not-true, not-false}
 use Rattle.basics.specs.Lists.{allIn}
 use Rattle.basics.specs.Below.{countBelow}
-use Rattle.basics.proofs.Bools.{split, clash, and-left, and-right, or-false-left, or-false-right, or-right, equal-or-not}
+use Rattle.basics.proofs.Bools.{split, clash, true-of-not, and-left, and-right, or-fails, or-false-left, or-false-right, equal-or-not}
 use Rattle.basics.proofs.Below.{any-false, count-zero}
 use Rattle.basics.proofs.Search.{least-is}
 use Rattle.rules.specs.Sizes.{Size, cell-bytes, table-bytes, drafts-bytes, log-bytes, most-records, handles}
-use Rattle.rules.specs.Books.{Books, place-at, is-free, is-live, held-status, lowest-free, no-free, live-count, room-taken}
-use Rattle.rules.specs.Handles.{place-of, turn-of, out-of-range, turn-agrees, is-stale, is-ended}
+use Rattle.rules.specs.Books.{Books, place-at, is-free, is-live, is-held, lowest-free, no-free, live-count, room-taken}
+use Rattle.rules.specs.Handles.{place-of, turn-of, out-of-range, turn-agrees, good-handle, Caller, reads, writes, commits, gives-up, orders, asks-live, is-stale, is-ended}
 use Rattle.rules.specs.Sound.{Sound}
-use Rattle.rules.specs.Numbers.{granted, Reason, _if_, first-reason, wrong}
+use Rattle.rules.specs.Numbers.{granted, stale, ended, Reason, _if_, first-reason, wrong}
 use Rattle.rules.specs.Steps.{soundness-reason, handle-reasons, cell-reason, handle-cell-reasons, room-reason, begin-reasons, write-reasons, read-reasons, show-reasons, commit-reasons, give-up-reasons, post-reasons, order-reasons, close-reasons}
 use Rattle.rules.specs.Kept.{HeldCaller, LiveCaller, BeginAsked, WriteAsked, ReadAsked, ShowAsked, CommitAsked, GiveUpAsked, PostAsked, OrderAsked, CloseAsked, ReasonsAsked}
-use Rattle.rules.proofs.Handles.{ended-is-committed}
+use Rattle.rules.proofs.Handles.{ended-is-committed, StatusKnown, good-or-stale}
 use Rattle.rules.proofs.Sound.{sound-says}
 
 -- ---- reasons that do not apply
@@ -55,6 +55,10 @@ right-three a x b y c w e =
     let rest = right-two b y c w (or-false-right (wrong a x) _ e) in
     (right a x (or-false-left (wrong a x) _ e), rest .0, rest .1)
 
+room-asked : (records-after live-after : ℕ) → first-reason (room-reason records-after live-after ∷ []) ≡ granted → records-after + live-after ≤ most-records
+unfolding room-reason
+room-asked records-after live-after e = ltb-false most-records (records-after + live-after) (none-after (room-reason records-after live-after) [] (omega arith) e .0)
+
 module _ (z : Size) (b : Books) where
   sound-asked : soundness-reason z b .applies ≡ false → Sound z b
   unfolding soundness-reason
@@ -63,10 +67,6 @@ module _ (z : Size) (b : Books) where
   cell-asked : (c : ℕ) → cell-reason z c .applies ≡ false → c < z .cells
   unfolding cell-reason
   cell-asked c e = leb-false (z .cells) c e
-
-  room-asked : (more : ℕ) → room-reason z b more .applies ≡ false → room-taken z b + more ≤ most-records
-  unfolding room-reason
-  room-asked more e = ltb-false most-records (room-taken z b + more) e
 
   -- the lowest free place is free
   pub lowest-is-free : lowest-free z b < z .places → place-at b (lowest-free z b) .status ≡ 0
@@ -95,117 +95,129 @@ room-for-one z b h = omega arith
 
 -- ---- the handle
 
--- a status that is known and not 0 is that of a held place
-held-of : (status : ℕ) → status ≤ 2 → (status ≡ 0 → ⊥) → held-status status ≡ true
-held-of status known other = equal-or-not status 1 (λ e. rw e) (λ no. or-right (eqb status 1) _ (eq-eqb status 2 (omega arith)))
-
 module _ (z : Size) (b : Books) (h : ℕ) (s : Sound z b) where
-  -- a handle that is not stale is in range, and its place is held with its turn
-  module _ (e : is-stale z b h ≡ false) where
-    in-range : out-of-range z h ≡ false
-    unfolding is-stale
-    in-range = or-false-left _ _ e
+  -- a handle in range names one of the places
+  place-asked : out-of-range z h ≡ false → place-of h < z .places
+  unfolding out-of-range
+  place-asked e = leb-false (z .places) (place-of h) (or-false-right (leb handles h) _ e)
 
-    not-free : is-free (place-at b (place-of h)) ≡ false
-    unfolding is-stale
-    not-free = or-false-left _ _ (or-false-right (out-of-range z h) _ e)
+  -- a place of a known status
+  pub status-asked : StatusKnown z (place-at b (place-of h)) h
+  status-asked near = s .each (place-of h) (place-asked near) .status-known
+
+  -- of sound books a handle is good exactly if it is not stale
+  pub good-is-not-stale : good-handle z b h ≡ not (is-stale z b h)
+  good-is-not-stale = good-or-stale z b h status-asked
+
+  -- what a good handle says
+  module _ (good : good-handle z b h ≡ true) where
+    in-range : out-of-range z h ≡ false
+    unfolding good-handle
+    in-range = not-true _ (and-left _ _ good)
 
     with-turn : turn-agrees b h ≡ true
-    unfolding is-stale
-    with-turn = not-false _ (or-false-right (is-free (place-at b (place-of h))) _ (or-false-right (out-of-range z h) _ e))
+    unfolding good-handle
+    with-turn = and-right (is-held (place-at b (place-of h))) _ (and-right (not (out-of-range z h)) _ good)
 
     pub held-asked : HeldCaller z b h
-    unfolding out-of-range turn-agrees
+    unfolding good-handle out-of-range turn-agrees
     held-asked =
-        let p = place-at b (place-of h) in
-        let place = leb-false (z .places) (place-of h) (or-false-right (leb handles h) _ in-range) in
         record {
           books = s;
           below = leb-false handles h (or-false-left _ _ in-range);
-          place = place;
-          held = held-of (p .status) (s .each (place-of h) place .status-known) (eqb-false (p .status) 0 not-free);
-          turn = eqb-true (p .turn) (turn-of h) with-turn;
+          place = place-asked in-range;
+          held = and-left _ _ (and-right (not (out-of-range z h)) _ good);
+          turn = eqb-true (place-at b (place-of h) .turn) (turn-of h) with-turn;
         }
 
     -- and if the transaction has not ended either, it is live
-    live-asked : is-ended z b h ≡ false → LiveCaller z b h
-    live-asked e4 =
+    live-asked : (who : Caller) → asks-live who ≡ true → is-ended z who b h ≡ false → LiveCaller z b h
+    live-asked who live e =
         let p = place-at b (place-of h) in
-        let held = held-asked in
-        let known = s .each (place-of h) (held .place) .status-known in
-        let free = eqb-false (p .status) 0 not-free in
-        let committed = eqb-false (p .status) 2 (sym (ended-is-committed z b h in-range with-turn) ∙ e4) in
-        record { books = s; below = held .below; place = held .place; live = omega arith; turn = held .turn }
+        let caller = held-asked in
+        let other = sym (ended-is-committed z who b h live in-range with-turn) ∙ e in
+        let first : eqb (p .status) 1 ≡ true = true-of-not _ (λ f. clash (caller .held) (or-fails _ _ f other)) in
+        record { books = s; below = caller .below; place = caller .place; live = eqb-true (p .status) 1 first; turn = caller .turn }
 
-  caller-asked : first-reason (handle-reasons z b h) ≡ granted → LiveCaller z b h
-  unfolding handle-reasons
-  caller-asked e =
-      let three = none-after _ _ (omega arith) e in
-      let four = none-after _ _ (omega arith) (three .1) in
-      live-asked (three .0) (four .0)
+  -- a good handle is refused to no order
+  pub order-goes-on : good-handle z b h ≡ true → (later : List Reason) → first-reason (handle-reasons z orders b h ++ later) ≡ first-reason later
+  unfolding handle-reasons first-reason is-ended asks-live
+  order-goes-on good later = rw (not-true (is-stale z b h) (sym good-is-not-stale ∙ good)) refl
+
+  module _ (who : Caller) (e : first-reason (handle-reasons z who b h) ≡ granted) where
+    -- a call that no reason of its handle refuses has a good one
+    pub good-asked : good-handle z b h ≡ true
+    unfolding handle-reasons
+    good-asked = good-is-not-stale ∙ ap not (none-after (stale if is-stale z b h) _ (omega arith) e .0)
+
+    caller-asked : asks-live who ≡ true → LiveCaller z b h
+    unfolding handle-reasons
+    caller-asked live =
+        let three = none-after (stale if is-stale z b h) _ (omega arith) e in
+        live-asked good-asked who live (none-after (ended if is-ended z who b h) _ (omega arith) (three .1) .0)
 
 -- a live caller's log has room
 pub caller-has-room : (z : Size) (b : Books) (h : ℕ) → LiveCaller z b h → b .records < most-records
 caller-has-room z b h l = live-has-room z b (place-of h) (l .books) (l .place) (l .live)
 
 -- books, handle and cell together
-books-handle-cell-asked : (z : Size) (b : Books) (h c : ℕ) (later : List Reason) → first-reason (handle-cell-reasons z b h c ++ later) ≡ granted
-    → LiveCaller z b h × (c < z .cells) × (first-reason later ≡ granted)
+books-handle-cell-asked : (z : Size) (who : Caller) (b : Books) (h c : ℕ) (later : List Reason) → asks-live who ≡ true
+    → first-reason (handle-cell-reasons z who b h c ++ later) ≡ granted → LiveCaller z b h × (c < z .cells) × (first-reason later ≡ granted)
 unfolding handle-cell-reasons soundness-reason handle-reasons cell-reason allIn
-books-handle-cell-asked z b h c later e =
-    let two = none-after (soundness-reason z b) (handle-reasons z b h ++ (cell-reason z c ∷ []) ++ later) (omega arith) e in
-    let three = none-of-both (handle-reasons z b h) (cell-reason z c ∷ later) refl (two .1) in
+books-handle-cell-asked z who b h c later live e =
+    let two = none-after (soundness-reason z b) (handle-reasons z who b h ++ (cell-reason z c ∷ []) ++ later) (omega arith) e in
+    let three = none-of-both (handle-reasons z who b h) (cell-reason z c ∷ later) refl (two .1) in
     let five = none-after (cell-reason z c) later (omega arith) (three .1) in
-    (caller-asked z b h (sound-asked z b (two .0)) (three .0), cell-asked z b c (five .0), five .1)
+    (caller-asked z b h (sound-asked z b (two .0)) who (three .0) live, cell-asked z b c (five .0), five .1)
 
 -- ---- each call
 
-pub begin-asked : (z : Size) (log : ℕ) (b : Books) → first-reason (begin-reasons z log b) ≡ granted → BeginAsked z log b
-unfolding begin-reasons soundness-reason room-reason
-begin-asked z log b e =
+pub begin-asked : (z : Size) (log-length : ℕ) (b : Books) → first-reason (begin-reasons z log-length b) ≡ granted → BeginAsked z log-length b
+unfolding begin-reasons soundness-reason room-taken
+begin-asked z log-length b e =
     let one = none-after _ _ (omega arith) e in
     let two = none-after (soundness-reason z b) _ (omega arith) (one .1) in
     let six = none-after _ _ (omega arith) (two .1) in
-    let seven = none-after (room-reason z b 2) _ (omega arith) (six .1) in
+    let seven = room-asked (b .records + 1) (live-count z b + 1) (six .1) in
     record {
-      log-right = right log log-bytes (one .0);
+      log-right = right log-length log-bytes (one .0);
       books = sound-asked z b (two .0);
       free = free-asked z b (six .0);
-      room = room-asked z b 2 (seven .0);
+      room = omega (arith, seven);
     }
 
-pub write-asked : (z : Size) (value drafts log : ℕ) (b : Books) (h c : ℕ) → first-reason (write-reasons z value drafts log b h c) ≡ granted
-    → WriteAsked z value drafts log b h c
-unfolding write-reasons room-reason
-write-asked z value drafts log b h c e =
+pub write-asked : (z : Size) (value-length drafts-length log-length : ℕ) (b : Books) (h c : ℕ) → first-reason (write-reasons z value-length drafts-length log-length b h c) ≡ granted
+    → WriteAsked z value-length drafts-length log-length b h c
+unfolding write-reasons asks-live room-taken
+write-asked z value-length drafts-length log-length b h c e =
     let one = none-after _ _ (omega arith) e in
-    let lengths = right-three value cell-bytes drafts (drafts-bytes z) log log-bytes (one .0) in
-    let five = books-handle-cell-asked z b h c (room-reason z b 1 ∷ []) (one .1) in
-    let seven = none-after (room-reason z b 1) _ (omega arith) (five .2) in
+    let lengths = right-three value-length cell-bytes drafts-length (drafts-bytes z) log-length log-bytes (one .0) in
+    let five = books-handle-cell-asked z writes b h c (room-reason (b .records + 1) (live-count z b) ∷ []) refl (one .1) in
+    let seven = room-asked (b .records + 1) (live-count z b) (five .2) in
     record {
       value-right = lengths .0;
       drafts-right = lengths .1;
       log-right = lengths .2;
       caller = five .0;
       cell = five .1;
-      room = room-asked z b 1 (seven .0);
+      room = omega (arith, seven);
     }
 
-pub read-asked : (z : Size) (table drafts log : ℕ) (b : Books) (h c : ℕ) → first-reason (read-reasons z table drafts log b h c) ≡ granted
-    → ReadAsked z table drafts log b h c
-unfolding read-reasons room-reason
-read-asked z table drafts log b h c e =
+pub read-asked : (z : Size) (table-length drafts-length log-length : ℕ) (b : Books) (h c : ℕ) → first-reason (read-reasons z table-length drafts-length log-length b h c) ≡ granted
+    → ReadAsked z table-length drafts-length log-length b h c
+unfolding read-reasons asks-live room-taken
+read-asked z table-length drafts-length log-length b h c e =
     let one = none-after _ _ (omega arith) e in
-    let lengths = right-three table (table-bytes z) drafts (drafts-bytes z) log log-bytes (one .0) in
-    let five = books-handle-cell-asked z b h c (room-reason z b 1 ∷ []) (one .1) in
-    let seven = none-after (room-reason z b 1) _ (omega arith) (five .2) in
+    let lengths = right-three table-length (table-bytes z) drafts-length (drafts-bytes z) log-length log-bytes (one .0) in
+    let five = books-handle-cell-asked z reads b h c (room-reason (b .records + 1) (live-count z b) ∷ []) refl (one .1) in
+    let seven = room-asked (b .records + 1) (live-count z b) (five .2) in
     record {
       table-right = lengths .0;
       drafts-right = lengths .1;
       log-right = lengths .2;
       caller = five .0;
       cell = five .1;
-      room = room-asked z b 1 (seven .0);
+      room = omega (arith, seven);
     }
 
 -- the number that the read gave is 0, or else it is the answer
@@ -215,47 +227,47 @@ unfolding first-reason
 given-asked given later e =
     equal-or-not given 0 (λ zero. (zero, rw (eq-eqb given 0 zero) at e)) (λ other. absurd (other (rw (ne-eqb given 0 other) at e)))
 
-pub show-asked : (z : Size) (table drafts : ℕ) (b : Books) (given h c : ℕ)
-    → first-reason (show-reasons z table drafts b given h c) ≡ granted → ShowAsked z table drafts b given h c
-unfolding show-reasons
-show-asked z table drafts b given h c e =
+pub show-asked : (z : Size) (table-length drafts-length : ℕ) (b : Books) (given h c : ℕ)
+    → first-reason (show-reasons z table-length drafts-length b given h c) ≡ granted → ShowAsked z table-length drafts-length b given h c
+unfolding show-reasons asks-live
+show-asked z table-length drafts-length b given h c e =
     let zero = given-asked given _ e in
     let one = none-after _ _ (omega arith) (zero .1) in
-    let lengths = right-two table (table-bytes z) drafts (drafts-bytes z) (one .0) in
-    let five = books-handle-cell-asked z b h c [] (rw append-nil (one .1)) in
+    let lengths = right-two table-length (table-bytes z) drafts-length (drafts-bytes z) (one .0) in
+    let five = books-handle-cell-asked z reads b h c [] refl (rw append-nil (one .1)) in
     record { read-granted = zero .0; table-right = lengths .0; drafts-right = lengths .1; caller = five .0; cell = five .1 }
 
-pub commit-asked : (z : Size) (table drafts log : ℕ) (b : Books) (h : ℕ) → first-reason (commit-reasons z table drafts log b h) ≡ granted
-    → CommitAsked z table drafts log b h
-unfolding commit-reasons soundness-reason
-commit-asked z table drafts log b h e =
+pub commit-asked : (z : Size) (table-length drafts-length log-length : ℕ) (b : Books) (h : ℕ) → first-reason (commit-reasons z table-length drafts-length log-length b h) ≡ granted
+    → CommitAsked z table-length drafts-length log-length b h
+unfolding commit-reasons soundness-reason asks-live
+commit-asked z table-length drafts-length log-length b h e =
     let one = none-after _ _ (omega arith) e in
-    let lengths = right-three table (table-bytes z) drafts (drafts-bytes z) log log-bytes (one .0) in
+    let lengths = right-three table-length (table-bytes z) drafts-length (drafts-bytes z) log-length log-bytes (one .0) in
     let two = none-after (soundness-reason z b) _ (omega arith) (one .1) in
     record {
       table-right = lengths .0;
       drafts-right = lengths .1;
       log-right = lengths .2;
-      caller = caller-asked z b h (sound-asked z b (two .0)) (two .1);
+      caller = caller-asked z b h (sound-asked z b (two .0)) commits (two .1) refl;
     }
 
-pub give-up-asked : (z : Size) (log : ℕ) (b : Books) (h : ℕ) → first-reason (give-up-reasons z log b h) ≡ granted → GiveUpAsked z log b h
-unfolding give-up-reasons soundness-reason
-give-up-asked z log b h e =
+pub give-up-asked : (z : Size) (log-length : ℕ) (b : Books) (h : ℕ) → first-reason (give-up-reasons z log-length b h) ≡ granted → GiveUpAsked z log-length b h
+unfolding give-up-reasons soundness-reason asks-live
+give-up-asked z log-length b h e =
     let one = none-after _ _ (omega arith) e in
     let two = none-after (soundness-reason z b) _ (omega arith) (one .1) in
-    record { log-right = right log log-bytes (one .0); caller = caller-asked z b h (sound-asked z b (two .0)) (two .1) }
+    record { log-right = right log-length log-bytes (one .0); caller = caller-asked z b h (sound-asked z b (two .0)) gives-up (two .1) refl }
 
-pub post-asked : (z : Size) (value table log : ℕ) (b : Books) (c : ℕ) → first-reason (post-reasons z value table log b c) ≡ granted
-    → PostAsked z value table log b c
-unfolding post-reasons soundness-reason cell-reason room-reason
-post-asked z value table log b c e =
+pub post-asked : (z : Size) (value-length table-length log-length : ℕ) (b : Books) (c : ℕ) → first-reason (post-reasons z value-length table-length log-length b c) ≡ granted
+    → PostAsked z value-length table-length log-length b c
+unfolding post-reasons soundness-reason cell-reason room-taken
+post-asked z value-length table-length log-length b c e =
     let one = none-after _ _ (omega arith) e in
-    let lengths = right-three value cell-bytes table (table-bytes z) log log-bytes (one .0) in
+    let lengths = right-three value-length cell-bytes table-length (table-bytes z) log-length log-bytes (one .0) in
     let two = none-after (soundness-reason z b) _ (omega arith) (one .1) in
     let five = none-after (cell-reason z c) _ (omega arith) (two .1) in
     let six = none-after _ _ (omega arith) (five .1) in
-    let seven = none-after (room-reason z b 1) _ (omega arith) (six .1) in
+    let seven = room-asked (b .records + 1) (live-count z b) (six .1) in
     record {
       value-right = lengths .0;
       table-right = lengths .1;
@@ -263,30 +275,30 @@ post-asked z value table log b c e =
       books = sound-asked z b (two .0);
       cell = cell-asked z b c (five .0);
       free = free-asked z b (six .0);
-      room = room-asked z b 1 (seven .0);
+      room = omega (arith, seven);
     }
 
-pub order-asked : (z : Size) (buffer : ℕ) (b : Books) (h : ℕ) → first-reason (order-reasons z buffer b h) ≡ granted → OrderAsked z buffer b h
-unfolding order-reasons soundness-reason
-order-asked z buffer b h e =
+pub order-asked : (z : Size) (buffer-length : ℕ) (b : Books) (h : ℕ) → first-reason (order-reasons z buffer-length b h) ≡ granted → OrderAsked z buffer-length b h
+unfolding order-reasons soundness-reason handle-reasons allIn
+order-asked z buffer-length b h e =
     let one = none-after _ _ (omega arith) e in
     let two = none-after (soundness-reason z b) _ (omega arith) (one .1) in
-    let three = none-after _ _ (omega arith) (two .1) in
+    let three = none-of-both (handle-reasons z orders b h) _ refl (two .1) in
     let again = none-after _ _ (omega arith) (three .1) in
     record {
-      buffer-right = right buffer (z .places) (one .0);
-      caller = held-asked z b h (sound-asked z b (two .0)) (three .0);
+      buffer-right = right buffer-length (z .places) (one .0);
+      caller = let s = sound-asked z b (two .0) in held-asked z b h s (good-asked z b h s orders (three .0));
       no-cycle = again .0;
     }
 
-pub close-asked : (z : Size) (log : ℕ) (b : Books) → first-reason (close-reasons z log b) ≡ granted → CloseAsked z log b
+pub close-asked : (z : Size) (log-length : ℕ) (b : Books) → first-reason (close-reasons z log-length b) ≡ granted → CloseAsked z log-length b
 unfolding close-reasons soundness-reason
-close-asked z log b e =
+close-asked z log-length b e =
     let one = none-after _ _ (omega arith) e in
     let two = none-after (soundness-reason z b) _ (omega arith) (one .1) in
     let eight = none-after _ _ (omega arith) (two .1) in
     record {
-      log-right = right log log-bytes (one .0);
+      log-right = right log-length log-bytes (one .0);
       books = sound-asked z b (two .0);
       nobody-live = any-false (λ i. is-live (place-at b i)) (z .places) (eight .0);
     }
@@ -303,4 +315,5 @@ reasons-asked =
       of-post = post-asked;
       of-order = order-asked;
       of-close = close-asked;
+      good = good-is-not-stale;
     }

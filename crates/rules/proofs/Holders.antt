@@ -1,4 +1,4 @@
--- A handle that is not stale names the transaction of the begin or post that answered it: the seat of its place was taken by a record with that place
+-- A good handle names the transaction of the begin or post that answered it: the seat of its place was taken by a record with that place
 -- and that turn. Rests on the walk over the day and on books that mirror it. Assumes nothing.
 use Prim.Native.Nat.{ℕ, suc, _≤_}
 use mathlib.Core.Path.{_≡_, refl, _∙_, ap, subst}
@@ -9,7 +9,7 @@ use native.Mathlib.Omega.{arith}
 use Rattle.rules.specs.declared.Record.{Record}
 use Rattle.rules.specs.Sizes.{Size}
 use Rattle.rules.specs.Books.{place-at}
-use Rattle.rules.specs.Handles.{handle-of, place-of, turn-of, is-stale}
+use Rattle.rules.specs.Handles.{handle-of, place-of, turn-of, good-handle}
 use Rattle.rules.specs.Daylog.{kind-starts}
 use Rattle.rules.specs.Layout.{Seat, seat, fits, walks}
 use Rattle.rules.specs.Run.{Machine}
@@ -76,8 +76,8 @@ module _ (p : ℕ) where
   seated z [] w h = absurd (omega arith)
   seated z (r ∷ earlier) w h = let v = walks-earlier z r earlier w in seated-step r earlier (v .1) (seated z earlier (v .0)) h
 
--- a handle that is not stale
-pub handle-names : (z : Size) (m : Machine) → Mirrored z (m .state .books) (m .day) → (h : ℕ) → is-stale z (m .state .books) h ≡ false → AnsweredBy (m .day) h
+-- a good handle
+pub handle-names : (z : Size) (m : Machine) → Mirrored z (m .state .books) (m .day) → (h : ℕ) → good-handle z (m .state .books) h ≡ true → AnsweredBy (m .day) h
 unfolding holder
 handle-names z m mirror h here =
     let caller = held-asked z (m .state .books) h (mirror .sound) here in

@@ -15,7 +15,7 @@ use Rattle.basics.proofs.Bytes.{part-splice}
 use Rattle.rules.specs.declared.Record.{Record}
 use Rattle.rules.specs.Sizes.{Size, Within, table-bytes, order-numbers}
 use Rattle.rules.specs.Books.{Books, place-at, held-status, is-held}
-use Rattle.rules.specs.Handles.{place-of, is-stale}
+use Rattle.rules.specs.Handles.{place-of, good-handle}
 use Rattle.rules.specs.Judging.{HasCycle, has-cycle, given-order}
 use Rattle.rules.specs.Numbers.{granted, conflict, no-order, first-reason}
 use Rattle.rules.specs.State.{Outcome, buffer-after, recorded, refused, unless-refused}
@@ -26,7 +26,7 @@ use Rattle.rules.specs.Run.{Machine, lends, outcome, new-day, moved-on, 
 use Rattle.rules.specs.Day.{events, is-transaction}
 use Rattle.rules.specs.Checker.{accepted, log-events, checked}
 use Rattle.rules.specs.Runs.{ran, told-run, RunsReadBack, holder, checked-on, GivesOrders, OrdersAccepted, DayPair, record-granted, MeetsNone, ConflictExactly, MeetsConflict, ConflictsMet}
-use Rattle.rules.proofs.Asked.{held-asked, order-asked}
+use Rattle.rules.proofs.Asked.{held-asked, order-goes-on, order-asked}
 use Rattle.rules.proofs.EachCall.{refused-or}
 use Rattle.rules.proofs.Explaining.{accepted-of, cycle-no-list}
 use Rattle.rules.proofs.Handled.{record-of-live, judged-met, judged-verdict, judged-told, holder-is}
@@ -132,11 +132,11 @@ module _ (z : Size) (m : Machine) (w : Within z) (kept : Kept z m) where
       kept .explained .each (place-at books i .begin) (transaction-mirrored z books (m .day) mirror i there held)
       (cycle-mirrored z books (m .day) mirror i there held .0 (given-orders z books i .cycle-told .0 t))
 
-  order-given : (h : ℕ) → is-stale z books h ≡ false → outcome z (Order h) m .number ≡ granted
+  order-given : (h : ℕ) → good-handle z books h ≡ true → outcome z (Order h) m .number ≡ granted
   unfolding outcome issued order-rule order-of order-reasons soundness-reason first-reason unless-refused
-  order-given h here =
-      let caller = held-asked z books h (mirror .sound) here in
-      rw (eq-eqb (order-numbers z) (order-numbers z) refl, sound-says z books .1 (mirror .sound), here, nobody-cyclic (place-of h) (caller .place) (caller .held)) refl
+  order-given h good =
+      let caller = held-asked z books h (mirror .sound) good in
+      rw (eq-eqb (order-numbers z) (order-numbers z) refl, sound-says z books .1 (mirror .sound), order-goes-on z books h (mirror .sound) good, nobody-cyclic (place-of h) (caller .place) (caller .held)) refl
 
   pub orders-given : GivesOrders z m
   orders-given = record { accepted = λ h buffer right. order-right h buffer; given = order-given }

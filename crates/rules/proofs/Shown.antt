@@ -10,7 +10,7 @@ use Rattle.basics.proofs.Bools.{or-fails}
 use Rattle.rules.specs.declared.Place.{Place}
 use Rattle.rules.specs.Sizes.{Size, Within, table-bytes, drafts-bytes, handles}
 use Rattle.rules.specs.Books.{Books, Shaped, place-at, wrote, read-marked, with-record}
-use Rattle.rules.specs.Handles.{place-of, out-of-range, turn-agrees, is-stale, is-ended}
+use Rattle.rules.specs.Handles.{place-of, out-of-range, turn-agrees, reads, asks-live, is-stale, is-ended}
 use Rattle.rules.specs.Sound.{Sound}
 use Rattle.rules.specs.Cells.{cell-of, draft-of}
 use Rattle.rules.specs.Numbers.{granted, first-reason}
@@ -43,8 +43,9 @@ module _ (z : Size) (b : Books) (h : ℕ) (caller : LiveCaller z b h) where
   unfolding is-stale
   not-stale = rw (in-range, agrees, caller .live)
 
-  not-ended : is-ended z b h ≡ false
-  not-ended = ended-is-committed z b h in-range agrees ∙ ap (λ (s : ℕ). eqb s 2) (caller .live)
+  not-ended : is-ended z reads b h ≡ false
+  unfolding asks-live
+  not-ended = ended-is-committed z reads b h refl in-range agrees ∙ ap (λ (s : ℕ). eqb s 2) (caller .live)
 
 -- a show of which all is right is not refused
 show-goes-on : (z : Size) (table drafts : ℕ) (b : Books) (h c : ℕ) → ShowAsked z table drafts b granted h c

@@ -5,7 +5,7 @@ use Rattle.basics.specs.Lists.{anyIn, member}
 use Rattle.basics.specs.Bytes.{part, splice}
 use Rattle.basics.specs.Elimination.{clear, without, next, taken, eliminated, givesAll}
 use Rattle.rules.specs.Books.{freed, begun, posted, marked, read-marked, sealed, with-place, with-record, opened, lowest-free, no-free, live-count, room-taken}
-use Rattle.rules.specs.Handles.{out-of-range, turn-agrees, is-stale, is-ended}
+use Rattle.rules.specs.Handles.{out-of-range, turn-agrees, asks-live, is-stale, is-ended}
 use Rattle.rules.specs.Sound.{cells-clear, is-clear, read-sound, reads-sound, held-sound, commit-sound, place-sound, differ, sound}
 use Rattle.rules.specs.Judging.{latest-read, moment, company, real-time, write-write, write-read, read-write, precedes, stands-before, has-cycle, given-places, given-order}
 use Rattle.rules.specs.Numbers.{first-reason}
@@ -17,7 +17,7 @@ use Rattle.rules.specs.Run.{outcome, new-day, moved-on, after-call, play
 use Rattle.rules.specs.Trials.{Trials}
 
 pub trials : Trials
-unfolding allBelow anyBelow countBelow leastBelow lowestBelow greatestBelow runBelow anyIn member part splice clear without next taken eliminated givesAll freed begun posted marked read-marked sealed with-place with-record opened lowest-free no-free live-count room-taken out-of-range turn-agrees is-stale is-ended cells-clear is-clear read-sound reads-sound held-sound commit-sound place-sound differ sound latest-read moment company real-time write-write write-read read-write precedes stands-before has-cycle given-places given-order first-reason cell-of with-cell draft-of with-draft laid-over refused unless-refused recorded soundness-reason handle-reasons cell-reason handle-cell-reasons room-reason books-granted granted-of turned-back meets-conflict judged-of begin-reasons begin-of begin-rule write-reasons write-of write-rule read-reasons own-read-of read-of read-rule commit-reasons commit-rule order-reasons order-of order-rule issued outcome new-day moved-on after-call played fresh
+unfolding allBelow anyBelow countBelow leastBelow lowestBelow greatestBelow runBelow anyIn member part splice clear without next taken eliminated givesAll freed begun posted marked read-marked sealed with-place with-record opened lowest-free no-free live-count room-taken out-of-range turn-agrees asks-live is-stale is-ended cells-clear is-clear read-sound reads-sound held-sound commit-sound place-sound differ sound latest-read moment company real-time write-write write-read read-write precedes stands-before has-cycle given-places given-order first-reason cell-of with-cell draft-of with-draft laid-over refused unless-refused recorded soundness-reason handle-reasons cell-reason handle-cell-reasons room-reason books-granted granted-of turned-back meets-conflict judged-of begin-reasons begin-of begin-rule write-reasons write-of write-rule read-reasons own-read-of read-of read-rule commit-reasons commit-rule order-reasons order-of order-rule issued outcome new-day moved-on after-call played fresh
 trials =
     record {
       case-a-holds = refl;

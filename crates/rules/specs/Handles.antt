@@ -1,11 +1,11 @@
 -- Document 01, "Sizes" and "Step rules": a handle is place + 32 × turn, and a call on a handle is looked up by place status.
 use Prim.Native.Nat.{ℕ, _+_, _*_, _/_, _%_}
-use mathlib.Core.Bool.{Bool, not, cond, _&&_, _||_}
+use mathlib.Core.Bool.{Bool, true, false, not, cond, _&&_, _||_}
 use lib.Dec.{leb, eqb}
 use Rattle.rules.specs.declared.Place.{Place}
 use Rattle.rules.specs.Sizes.{Size, handles, handles-a-turn}
 use Rattle.rules.specs.Numbers.{granted, stale, ended}
-use Rattle.rules.specs.Books.{Books, place-at, is-free, is-committed}
+use Rattle.rules.specs.Books.{Books, place-at, is-free, is-committed, is-held}
 
 -- a handle is place + 32 × turn
 abbrev pub handle-of : ℕ → ℕ → ℕ
@@ -27,30 +27,36 @@ out-of-range z h = leb handles h || leb (z .places) (place-of h)
 unfoldable pub turn-agrees : Books → ℕ → Bool
 turn-agrees b h = eqb (place-at b (place-of h) .turn) (turn-of h)
 
--- 3: handle out of range, place free, or turn differs
-unfoldable pub is-stale : Size → Books → ℕ → Bool
-is-stale z b h = out-of-range z h || (is-free (place-at b (place-of h)) || not (turn-agrees b h))
-
--- 4: turn agrees, place committed (for every call but order)
-unfoldable pub is-ended : Size → Books → ℕ → Bool
-is-ended z b h = not (out-of-range z h) && (turn-agrees b h && is-committed (place-at b (place-of h)))
+-- a good handle: in range, its place held, the turn agrees (of sound books it is one that is not stale: `good-or-stale`, in proofs/Handles.antt)
+unfoldable pub good-handle : Size → Books → ℕ → Bool
+good-handle z b h = not (out-of-range z h) && (is-held (place-at b (place-of h)) && turn-agrees b h)
 
 -- the five calls that take a handle to a transaction
 pub data Caller : Type 0 where
   reads writes commits gives-up orders : Caller
 
--- a committed place: 4 for read, write, commit and give up, while order goes on
-unfoldable pub gate-committed : Caller → ℕ
-gate-committed reads = ended
-gate-committed writes = ended
-gate-committed commits = ended
-gate-committed gives-up = ended
-gate-committed orders = granted
+-- every call but order asks for a live transaction
+unfoldable pub asks-live : Caller → Bool
+asks-live reads = true
+asks-live writes = true
+asks-live commits = true
+asks-live gives-up = true
+asks-live orders = false
 
--- by place status: free, always 3; live, goes on; committed, by the call
+-- 3: handle out of range, place free, or turn differs
+unfoldable pub is-stale : Size → Books → ℕ → Bool
+is-stale z b h = out-of-range z h || (is-free (place-at b (place-of h)) || not (turn-agrees b h))
+
+-- 4: turn agrees, place committed, call not order
+unfoldable pub is-ended : Size → Caller → Books → ℕ → Bool
+is-ended z who b h = asks-live who && (not (out-of-range z h) && (turn-agrees b h && is-committed (place-at b (place-of h))))
+
+-- ---- looked up by place status: in sound books the first of the reasons 3 and 4 (`looked-up-reasons`, in proofs/Handles.antt)
+
+-- free, always 3; live, goes on; committed, 4 for read, write, commit and give up, while order goes on
 unfoldable pub gate : Caller → ℕ → ℕ
-gate c status = cond (eqb status 0) stale (cond (eqb status 1) granted (gate-committed c))
+gate who status = cond (eqb status 0) stale (cond (eqb status 1) granted (cond (asks-live who) ended granted))
 
 -- 3, 4 or 0: what a call on a handle meets at the place that the handle names
 unfoldable pub looked-up : Size → Caller → Place → ℕ → ℕ
-looked-up z c p h = cond (out-of-range z h || not (eqb (p .turn) (turn-of h))) stale (gate c (p .status))
+looked-up z who p h = cond (out-of-range z h || not (eqb (p .turn) (turn-of h))) stale (gate who (p .status))

@@ -1,14 +1,14 @@
 -- What is proved of calls one after the other: what is known when no reason applies, and what every call keeps. The types of the theorems.
 use mathlib.Core.Path.{_≡_}
 use Prim.Native.Nat.{ℕ, _+_, _*_, _≤_, _<_}
-use mathlib.Core.Bool.{true, false}
+use mathlib.Core.Bool.{true, false, not}
 use mathlib.Core.List.{List, [], List·Memᴰ}
 use lib.ListN.{length}
 use Rattle.basics.specs.Bytes.{part}
 use Rattle.rules.specs.declared.Record.{Record}
 use Rattle.rules.specs.Sizes.{Size, Within, cell-bytes, table-bytes, drafts-bytes, log-bytes, record-bytes, order-numbers, most-records, handles}
 use Rattle.rules.specs.Books.{Books, Shaped, place-at, is-live, is-held, lowest-free, room-taken}
-use Rattle.rules.specs.Handles.{place-of, turn-of}
+use Rattle.rules.specs.Handles.{place-of, turn-of, good-handle, is-stale}
 use Rattle.rules.specs.Sound.{sound, Sound}
 use Rattle.rules.specs.Judging.{has-cycle}
 use Rattle.rules.specs.Numbers.{granted, first-reason}
@@ -20,7 +20,7 @@ use Rattle.rules.specs.Steps.{begin-reasons, write-reasons, read-reasons
 
 -- ---- what is known when no reason applies
 
--- a handle of a transaction that holds a place of sound books
+-- a good handle of sound books
 pub record HeldCaller (z : Size) (b : Books) (h : ℕ) : Type 0 where
   pub books : Sound z b
   pub below : h < handles
@@ -36,80 +36,81 @@ pub record LiveCaller (z : Size) (b : Books) (h : ℕ) : Type 0 where
   pub live : place-at b (place-of h) .status ≡ 1
   pub turn : place-at b (place-of h) .turn ≡ turn-of h
 
-pub record BeginAsked (z : Size) (log : ℕ) (b : Books) : Type 0 where
-  pub log-right : log ≡ log-bytes
+pub record BeginAsked (z : Size) (log-length : ℕ) (b : Books) : Type 0 where
+  pub log-right : log-length ≡ log-bytes
   pub books : Sound z b
   pub free : lowest-free z b < z .places
   pub room : room-taken z b + 2 ≤ most-records
 
-pub record WriteAsked (z : Size) (value drafts log : ℕ) (b : Books) (h c : ℕ) : Type 0 where
-  pub value-right : value ≡ cell-bytes
-  pub drafts-right : drafts ≡ drafts-bytes z
-  pub log-right : log ≡ log-bytes
+pub record WriteAsked (z : Size) (value-length drafts-length log-length : ℕ) (b : Books) (h c : ℕ) : Type 0 where
+  pub value-right : value-length ≡ cell-bytes
+  pub drafts-right : drafts-length ≡ drafts-bytes z
+  pub log-right : log-length ≡ log-bytes
   pub caller : LiveCaller z b h
   pub cell : c < z .cells
   pub room : room-taken z b + 1 ≤ most-records
 
-pub record ReadAsked (z : Size) (table drafts log : ℕ) (b : Books) (h c : ℕ) : Type 0 where
-  pub table-right : table ≡ table-bytes z
-  pub drafts-right : drafts ≡ drafts-bytes z
-  pub log-right : log ≡ log-bytes
+pub record ReadAsked (z : Size) (table-length drafts-length log-length : ℕ) (b : Books) (h c : ℕ) : Type 0 where
+  pub table-right : table-length ≡ table-bytes z
+  pub drafts-right : drafts-length ≡ drafts-bytes z
+  pub log-right : log-length ≡ log-bytes
   pub caller : LiveCaller z b h
   pub cell : c < z .cells
   pub room : room-taken z b + 1 ≤ most-records
 
-pub record ShowAsked (z : Size) (table drafts : ℕ) (b : Books) (given h c : ℕ) : Type 0 where
+pub record ShowAsked (z : Size) (table-length drafts-length : ℕ) (b : Books) (given h c : ℕ) : Type 0 where
   pub read-granted : given ≡ granted
-  pub table-right : table ≡ table-bytes z
-  pub drafts-right : drafts ≡ drafts-bytes z
+  pub table-right : table-length ≡ table-bytes z
+  pub drafts-right : drafts-length ≡ drafts-bytes z
   pub caller : LiveCaller z b h
   pub cell : c < z .cells
 
-pub record CommitAsked (z : Size) (table drafts log : ℕ) (b : Books) (h : ℕ) : Type 0 where
-  pub table-right : table ≡ table-bytes z
-  pub drafts-right : drafts ≡ drafts-bytes z
-  pub log-right : log ≡ log-bytes
+pub record CommitAsked (z : Size) (table-length drafts-length log-length : ℕ) (b : Books) (h : ℕ) : Type 0 where
+  pub table-right : table-length ≡ table-bytes z
+  pub drafts-right : drafts-length ≡ drafts-bytes z
+  pub log-right : log-length ≡ log-bytes
   pub caller : LiveCaller z b h
 
-pub record GiveUpAsked (z : Size) (log : ℕ) (b : Books) (h : ℕ) : Type 0 where
-  pub log-right : log ≡ log-bytes
+pub record GiveUpAsked (z : Size) (log-length : ℕ) (b : Books) (h : ℕ) : Type 0 where
+  pub log-right : log-length ≡ log-bytes
   pub caller : LiveCaller z b h
 
-pub record PostAsked (z : Size) (value table log : ℕ) (b : Books) (c : ℕ) : Type 0 where
-  pub value-right : value ≡ cell-bytes
-  pub table-right : table ≡ table-bytes z
-  pub log-right : log ≡ log-bytes
+pub record PostAsked (z : Size) (value-length table-length log-length : ℕ) (b : Books) (c : ℕ) : Type 0 where
+  pub value-right : value-length ≡ cell-bytes
+  pub table-right : table-length ≡ table-bytes z
+  pub log-right : log-length ≡ log-bytes
   pub books : Sound z b
   pub cell : c < z .cells
   pub free : lowest-free z b < z .places
   pub room : room-taken z b + 1 ≤ most-records
 
-pub record OrderAsked (z : Size) (buffer : ℕ) (b : Books) (h : ℕ) : Type 0 where
-  pub buffer-right : buffer ≡ order-numbers z
+pub record OrderAsked (z : Size) (buffer-length : ℕ) (b : Books) (h : ℕ) : Type 0 where
+  pub buffer-right : buffer-length ≡ order-numbers z
   pub caller : HeldCaller z b h
   pub no-cycle : has-cycle z b (place-of h) ≡ false
 
-pub record CloseAsked (z : Size) (log : ℕ) (b : Books) : Type 0 where
-  pub log-right : log ≡ log-bytes
+pub record CloseAsked (z : Size) (log-length : ℕ) (b : Books) : Type 0 where
+  pub log-right : log-length ≡ log-bytes
   pub books : Sound z b
   pub nobody-live : (i : ℕ) → i < z .places → is-live (place-at b i) ≡ false
 
--- for every call, over any books and lengths
+-- for every call, over any books and lengths; and of sound books a handle is good exactly if it is not stale
 pub record ReasonsAsked : Type 0 where
-  pub of-begin : (z : Size) (log : ℕ) (b : Books) → first-reason (begin-reasons z log b) ≡ granted → BeginAsked z log b
-  pub of-write : (z : Size) (value drafts log : ℕ) (b : Books) (h c : ℕ) → first-reason (write-reasons z value drafts log b h c) ≡ granted
-      → WriteAsked z value drafts log b h c
-  pub of-read : (z : Size) (table drafts log : ℕ) (b : Books) (h c : ℕ) → first-reason (read-reasons z table drafts log b h c) ≡ granted
-      → ReadAsked z table drafts log b h c
-  pub of-show : (z : Size) (table drafts : ℕ) (b : Books) (given h c : ℕ)
-      → first-reason (show-reasons z table drafts b given h c) ≡ granted → ShowAsked z table drafts b given h c
-  pub of-commit : (z : Size) (table drafts log : ℕ) (b : Books) (h : ℕ) → first-reason (commit-reasons z table drafts log b h) ≡ granted
-      → CommitAsked z table drafts log b h
-  pub of-give-up : (z : Size) (log : ℕ) (b : Books) (h : ℕ) → first-reason (give-up-reasons z log b h) ≡ granted → GiveUpAsked z log b h
-  pub of-post : (z : Size) (value table log : ℕ) (b : Books) (c : ℕ) → first-reason (post-reasons z value table log b c) ≡ granted
-      → PostAsked z value table log b c
-  pub of-order : (z : Size) (buffer : ℕ) (b : Books) (h : ℕ) → first-reason (order-reasons z buffer b h) ≡ granted → OrderAsked z buffer b h
-  pub of-close : (z : Size) (log : ℕ) (b : Books) → first-reason (close-reasons z log b) ≡ granted → CloseAsked z log b
+  pub of-begin : (z : Size) (log-length : ℕ) (b : Books) → first-reason (begin-reasons z log-length b) ≡ granted → BeginAsked z log-length b
+  pub of-write : (z : Size) (value-length drafts-length log-length : ℕ) (b : Books) (h c : ℕ) → first-reason (write-reasons z value-length drafts-length log-length b h c) ≡ granted
+      → WriteAsked z value-length drafts-length log-length b h c
+  pub of-read : (z : Size) (table-length drafts-length log-length : ℕ) (b : Books) (h c : ℕ) → first-reason (read-reasons z table-length drafts-length log-length b h c) ≡ granted
+      → ReadAsked z table-length drafts-length log-length b h c
+  pub of-show : (z : Size) (table-length drafts-length : ℕ) (b : Books) (given h c : ℕ)
+      → first-reason (show-reasons z table-length drafts-length b given h c) ≡ granted → ShowAsked z table-length drafts-length b given h c
+  pub of-commit : (z : Size) (table-length drafts-length log-length : ℕ) (b : Books) (h : ℕ) → first-reason (commit-reasons z table-length drafts-length log-length b h) ≡ granted
+      → CommitAsked z table-length drafts-length log-length b h
+  pub of-give-up : (z : Size) (log-length : ℕ) (b : Books) (h : ℕ) → first-reason (give-up-reasons z log-length b h) ≡ granted → GiveUpAsked z log-length b h
+  pub of-post : (z : Size) (value-length table-length log-length : ℕ) (b : Books) (c : ℕ) → first-reason (post-reasons z value-length table-length log-length b c) ≡ granted
+      → PostAsked z value-length table-length log-length b c
+  pub of-order : (z : Size) (buffer-length : ℕ) (b : Books) (h : ℕ) → first-reason (order-reasons z buffer-length b h) ≡ granted → OrderAsked z buffer-length b h
+  pub of-close : (z : Size) (log-length : ℕ) (b : Books) → first-reason (close-reasons z log-length b) ≡ granted → CloseAsked z log-length b
+  pub good : (z : Size) (b : Books) (h : ℕ) → Sound z b → good-handle z b h ≡ not (is-stale z b h)
 
 -- ---- what every call keeps
 
@@ -160,28 +161,28 @@ pub record NeitherLent (s : State) (o narrow : Outcome) : Type 0 where
 -- what a call is not lent is of no concern to its rule, and stays
 pub record Unlent : Type 0 where
   pub of-open : (s : State) → NeitherLent s (open-rule s) (open-rule (state-of (s .books) [] []))
-  pub of-begin : (z : Size) (log : ℕ) (s : State) → NeitherLent s (begin-rule z log s) (begin-rule z log (state-of (s .books) [] []))
-  pub of-give-up : (z : Size) (log : ℕ) (s : State) (h : ℕ)
-      → NeitherLent s (give-up-rule z log s h) (give-up-rule z log (state-of (s .books) [] []) h)
-  pub of-order : (z : Size) (buffer : ℕ) (s : State) (h : ℕ)
-      → NeitherLent s (order-rule z buffer s h) (order-rule z buffer (state-of (s .books) [] []) h)
-  pub of-close : (z : Size) (log total : ℕ) (s : State)
-      → NeitherLent s (close-rule z log total s) (close-rule z log total (state-of (s .books) [] []))
+  pub of-begin : (z : Size) (log-length : ℕ) (s : State) → NeitherLent s (begin-rule z log-length s) (begin-rule z log-length (state-of (s .books) [] []))
+  pub of-give-up : (z : Size) (log-length : ℕ) (s : State) (h : ℕ)
+      → NeitherLent s (give-up-rule z log-length s h) (give-up-rule z log-length (state-of (s .books) [] []) h)
+  pub of-order : (z : Size) (buffer-length : ℕ) (s : State) (h : ℕ)
+      → NeitherLent s (order-rule z buffer-length s h) (order-rule z buffer-length (state-of (s .books) [] []) h)
+  pub of-close : (z : Size) (log-length total : ℕ) (s : State)
+      → NeitherLent s (close-rule z log-length total s) (close-rule z log-length total (state-of (s .books) [] []))
   -- a write is lent the drafts, a post the table
-  pub of-write : (z : Size) (log : ℕ) (s : State) (h c : ℕ) (value : List ℕ)
-      → AsLent (write-rule z log s h c value) (write-rule z log (state-of (s .books) [] (s .drafts)) h c value)
-  pub write-drafts : (z : Size) (log : ℕ) (s : State) (h c : ℕ) (value : List ℕ)
-      → write-rule z log s h c value .after .drafts ≡ write-rule z log (state-of (s .books) [] (s .drafts)) h c value .after .drafts
-  pub write-table : (z : Size) (log : ℕ) (s : State) (h c : ℕ) (value : List ℕ) → TableStays s (write-rule z log s h c value)
-  pub of-post : (z : Size) (log : ℕ) (s : State) (c : ℕ) (value : List ℕ)
-      → AsLent (post-rule z log s c value) (post-rule z log (state-of (s .books) (s .table) []) c value)
-  pub post-table : (z : Size) (log : ℕ) (s : State) (c : ℕ) (value : List ℕ)
-      → post-rule z log s c value .after .table ≡ post-rule z log (state-of (s .books) (s .table) []) c value .after .table
-  pub post-drafts : (z : Size) (log : ℕ) (s : State) (c : ℕ) (value : List ℕ) → DraftsStay s (post-rule z log s c value)
+  pub of-write : (z : Size) (log-length : ℕ) (s : State) (h c : ℕ) (value : List ℕ)
+      → AsLent (write-rule z log-length s h c value) (write-rule z log-length (state-of (s .books) [] (s .drafts)) h c value)
+  pub write-drafts : (z : Size) (log-length : ℕ) (s : State) (h c : ℕ) (value : List ℕ)
+      → write-rule z log-length s h c value .after .drafts ≡ write-rule z log-length (state-of (s .books) [] (s .drafts)) h c value .after .drafts
+  pub write-table : (z : Size) (log-length : ℕ) (s : State) (h c : ℕ) (value : List ℕ) → TableStays s (write-rule z log-length s h c value)
+  pub of-post : (z : Size) (log-length : ℕ) (s : State) (c : ℕ) (value : List ℕ)
+      → AsLent (post-rule z log-length s c value) (post-rule z log-length (state-of (s .books) (s .table) []) c value)
+  pub post-table : (z : Size) (log-length : ℕ) (s : State) (c : ℕ) (value : List ℕ)
+      → post-rule z log-length s c value .after .table ≡ post-rule z log-length (state-of (s .books) (s .table) []) c value .after .table
+  pub post-drafts : (z : Size) (log-length : ℕ) (s : State) (c : ℕ) (value : List ℕ) → DraftsStay s (post-rule z log-length s c value)
   -- a read is lent both and leaves both, a commit leaves the drafts, a show leaves all
-  pub read-table : (z : Size) (log : ℕ) (s : State) (h c : ℕ) → TableStays s (read-rule z log s h c)
-  pub read-drafts : (z : Size) (log : ℕ) (s : State) (h c : ℕ) → DraftsStay s (read-rule z log s h c)
-  pub commit-drafts : (z : Size) (log : ℕ) (s : State) (h : ℕ) → DraftsStay s (commit-rule z log s h)
+  pub read-table : (z : Size) (log-length : ℕ) (s : State) (h c : ℕ) → TableStays s (read-rule z log-length s h c)
+  pub read-drafts : (z : Size) (log-length : ℕ) (s : State) (h c : ℕ) → DraftsStay s (read-rule z log-length s h c)
+  pub commit-drafts : (z : Size) (log-length : ℕ) (s : State) (h : ℕ) → DraftsStay s (commit-rule z log-length s h)
   pub show-all : (z : Size) (s : State) (given h c : ℕ) → show-rule z s given h c .after ≡ s
 
 -- ---- the lent log and the day

@@ -73,4 +73,4 @@ first-reason (r ∷ later) = cond (r .applies) (r .number) (first-reason later)
 
 -- a length is not the one asked for
 abbrev pub wrong : ℕ → ℕ → Bool
-wrong length wanted = not (eqb length wanted)
+wrong lent-length wanted = not (eqb lent-length wanted)

@@ -14,7 +14,7 @@ use Rattle.basics.specs.Walk.{Cycle}
 use Rattle.rules.specs.declared.Record.{Record}
 use Rattle.rules.specs.Sizes.{Size, Within, table-bytes, drafts-bytes, order-numbers}
 use Rattle.rules.specs.Books.{Books, Shaped, opened, closed}
-use Rattle.rules.specs.Handles.{handle-of, place-of, turn-of, is-stale}
+use Rattle.rules.specs.Handles.{handle-of, place-of, turn-of, good-handle}
 use Rattle.rules.specs.Numbers.{granted, conflict, no-order}
 use Rattle.rules.specs.Daylog.{begin-kind, judged-read-kind, own-read-kind, write-kind, commit-kind, give-up-kind, read-conflict-kind, commit-conflict-kind, post-kind, kind-starts, no-value, day-bytes, standing, records-in, day-of}
 use Rattle.rules.specs.State.{Outcome, entry-bytes, shown-bytes, buffer-after}
@@ -165,8 +165,9 @@ pub record AnsweredBy (day : List Record) (h : ℕ) : Type 0 where
   pub starts : kind-starts (answering .kind) ≡ true
   pub names : handle-of (answering .place) (answering .turn) ≡ h
 
+-- a good handle is one that a begin or post of the day answered, and names its transaction
 abbrev pub HandlesName : Type 0
-HandlesName = AfterRuns (λ z m. (h : ℕ) → is-stale z (m .state .books) h ≡ false → AnsweredBy (m .day) h)
+HandlesName = AfterRuns (λ z m. (h : ℕ) → good-handle z (m .state .books) h ≡ true → AnsweredBy (m .day) h)
 
 -- ---- orders
 
@@ -178,7 +179,7 @@ checked-on z m day t order = checked z (m .opening) (standing day) t order
 pub record GivesOrders (z : Size) (m : Machine) : Type 0 where
   pub accepted : (h : ℕ) (buffer : List ℕ) → length buffer ≡ order-numbers z → let o = outcome z (Order h) m in
       o .number ≡ granted → checked-on z m (m .day) (holder (m .day) h) (take (o .answer) (buffer-after (o .order) buffer)) ≡ granted
-  pub given : (h : ℕ) → is-stale z (m .state .books) h ≡ false → outcome z (Order h) m .number ≡ granted
+  pub given : (h : ℕ) → good-handle z (m .state .books) h ≡ true → outcome z (Order h) m .number ≡ granted
 
 abbrev pub OrdersAccepted : Type 0
 OrdersAccepted = AfterRuns GivesOrders

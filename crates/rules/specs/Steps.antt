@@ -1,5 +1,5 @@
 -- Document 01, "Step rules" and "Numbers given back": each call's reasons in the order of their numbers, and what it does if none applies.
--- Reasons look at the books and at lengths alone: `value`, `table`, `drafts`, `log` and `buffer` among their arguments are lengths of what is lent.
+-- Reasons look at the books and at the lengths of what is lent, never at its bytes.
 use Prim.Native.Nat.{ℕ, _+_}
 use mathlib.Core.Bool.{Bool, not, cond, _||_}
 use mathlib.Core.List.{List, [], _∷_, _++_}
@@ -9,8 +9,8 @@ use Rattle.basics.specs.Below.{anyBelow}
 use Rattle.rules.specs.declared.Place.{Place}
 use Rattle.rules.specs.declared.Record.{Record}
 use Rattle.rules.specs.Sizes.{Size, cell-bytes, table-bytes, drafts-bytes, log-bytes, order-numbers, most-records}
-use Rattle.rules.specs.Books.{Books, place-at, is-live, wrote, freed, begun, posted, marked, read-marked, sealed, with-place, with-record, opened, closed, lowest-free, no-free, room-taken}
-use Rattle.rules.specs.Handles.{handle-of, place-of, is-stale, is-ended}
+use Rattle.rules.specs.Books.{Books, place-at, is-live, wrote, freed, begun, posted, marked, read-marked, sealed, with-place, with-record, opened, closed, lowest-free, no-free, live-count}
+use Rattle.rules.specs.Handles.{handle-of, place-of, Caller, reads, writes, commits, gives-up, orders, is-stale, is-ended}
 use Rattle.rules.specs.Sound.{sound}
 use Rattle.rules.specs.Judging.{has-cycle, given-order}
 use Rattle.rules.specs.Numbers.{granted, lent, unsound, stale, ended, no-cell, full, log-full, busy, conflict, Reason, _if_, wrong}
@@ -36,21 +36,21 @@ record-at kind i p c value = record { kind = kind; place = i; cell = c; turn = p
 unfoldable pub soundness-reason : Size → Books → Reason
 soundness-reason z b = unsound if not (sound z b)
 
--- 3 and 4: the handle
-unfoldable pub handle-reasons : Size → Books → ℕ → List Reason
-handle-reasons z b h = (stale if is-stale z b h) ∷ (ended if is-ended z b h) ∷ []
+-- 3 and 4: the handle, for each of the five calls that take one (order never meets 4)
+unfoldable pub handle-reasons : Size → Caller → Books → ℕ → List Reason
+handle-reasons z who b h = (stale if is-stale z b h) ∷ (ended if is-ended z who b h) ∷ []
 
 -- 5: cell 32 or more
 unfoldable pub cell-reason : Size → ℕ → Reason
 cell-reason z c = no-cell if leb (z .cells) c
 
 -- 2 to 5: books, handle and cell, for write, read and show
-unfoldable pub handle-cell-reasons : Size → Books → ℕ → ℕ → List Reason
-handle-cell-reasons z b h c = soundness-reason z b ∷ (handle-reasons z b h ++ (cell-reason z c ∷ []))
+unfoldable pub handle-cell-reasons : Size → Caller → Books → ℕ → ℕ → List Reason
+handle-cell-reasons z who b h c = soundness-reason z b ∷ (handle-reasons z who b h ++ (cell-reason z c ∷ []))
 
--- 7: records after the call plus live ones after it would pass 4,000, with so many more of both than now
-unfoldable pub room-reason : Size → Books → ℕ → Reason
-room-reason z b more = log-full if ltb most-records (room-taken z b + more)
+-- 7: records after the call plus live ones after it would pass 4,000
+unfoldable pub room-reason : ℕ → ℕ → Reason
+room-reason records-after live-after = log-full if ltb most-records (records-after + live-after)
 
 -- ---- a judged call
 
@@ -100,11 +100,11 @@ module _ (z : Size) where
   -- ---- Begin takes the lowest free place and answers the handle.
 
   unfoldable pub begin-reasons : ℕ → Books → List Reason
-  begin-reasons log b =
-      (lent if wrong log log-bytes)
+  begin-reasons log-length b =
+      (lent if wrong log-length log-bytes)
       ∷ soundness-reason z b
       ∷ (full if no-free z b)
-      ∷ room-reason z b 2
+      ∷ room-reason (b .records + 1) (live-count z b + 1)
       ∷ []
 
   unfoldable pub begin-of : State → Outcome
@@ -115,14 +115,14 @@ module _ (z : Size) where
       recorded granted (handle-of i (p .turn)) (with-books s (with-place b i p)) (record-at begin-kind i p 0 no-value)
 
   unfoldable pub begin-rule : ℕ → State → Outcome
-  begin-rule log s = unless-refused (begin-reasons log (s .books)) s (begin-of s)
+  begin-rule log-length s = unless-refused (begin-reasons log-length (s .books)) s (begin-of s)
 
   -- ---- Write puts 8 bytes in the place's draft of that cell and marks the cell written. It is not judged.
 
   unfoldable pub write-reasons : ℕ → ℕ → ℕ → Books → ℕ → ℕ → List Reason
-  write-reasons value drafts log b h c =
-      (lent if (wrong value cell-bytes || (wrong drafts (drafts-bytes z) || wrong log log-bytes)))
-      ∷ (handle-cell-reasons z b h c ++ (room-reason z b 1 ∷ []))
+  write-reasons value-length drafts-length log-length b h c =
+      (lent if (wrong value-length cell-bytes || (wrong drafts-length (drafts-bytes z) || wrong log-length log-bytes)))
+      ∷ (handle-cell-reasons z writes b h c ++ (room-reason (b .records + 1) (live-count z b) ∷ []))
 
   unfoldable pub write-of : State → ℕ → ℕ → List ℕ → Outcome
   write-of s i c value =
@@ -133,16 +133,16 @@ module _ (z : Size) where
       (record-at write-kind i p c value)
 
   unfoldable pub write-rule : ℕ → State → ℕ → ℕ → List ℕ → Outcome
-  write-rule log s h c value =
-      unless-refused (write-reasons (length value) (length (s .drafts)) log (s .books) h c) s (write-of s (place-of h) c value)
+  write-rule log-length s h c value =
+      unless-refused (write-reasons (length value) (length (s .drafts)) log-length (s .books) h c) s (write-of s (place-of h) c value)
 
   -- ---- Read of a cell the transaction has written shows its draft and is not judged. Any other read shows the table's 8 bytes and is judged.
 
   -- 7 is counted as if granted
   unfoldable pub read-reasons : ℕ → ℕ → ℕ → Books → ℕ → ℕ → List Reason
-  read-reasons table drafts log b h c =
-      (lent if (wrong table (table-bytes z) || (wrong drafts (drafts-bytes z) || wrong log log-bytes)))
-      ∷ (handle-cell-reasons z b h c ++ (room-reason z b 1 ∷ []))
+  read-reasons table-length drafts-length log-length b h c =
+      (lent if (wrong table-length (table-bytes z) || (wrong drafts-length (drafts-bytes z) || wrong log-length log-bytes)))
+      ∷ (handle-cell-reasons z reads b h c ++ (room-reason (b .records + 1) (live-count z b) ∷ []))
 
   -- a read of a written cell: its draft is recorded
   unfoldable pub own-read-of : State → ℕ → ℕ → Outcome
@@ -169,15 +169,15 @@ module _ (z : Size) where
   read-of s i c = cond (wrote (place-at (s .books) i) c) (own-read-of s i c) (judged-read-of s i c)
 
   unfoldable pub read-rule : ℕ → State → ℕ → ℕ → Outcome
-  read-rule log s h c =
-      unless-refused (read-reasons (length (s .table)) (length (s .drafts)) log (s .books) h c) s (read-of s (place-of h) c)
+  read-rule log-length s h c =
+      unless-refused (read-reasons (length (s .table)) (length (s .drafts)) log-length (s .books) h c) s (read-of s (place-of h) c)
 
   -- Showing takes the new books and the read's number. It shows an empty part unless that is 0 and a read would meet none of 1 to 5.
   unfoldable pub show-reasons : ℕ → ℕ → Books → ℕ → ℕ → ℕ → List Reason
-  show-reasons table drafts b given h c =
-      (given if not (eqb given 0))
-      ∷ (lent if (wrong table (table-bytes z) || wrong drafts (drafts-bytes z)))
-      ∷ handle-cell-reasons z b h c
+  show-reasons table-length drafts-length b given h c =
+      (given if not (eqb given granted))
+      ∷ (lent if (wrong table-length (table-bytes z) || wrong drafts-length (drafts-bytes z)))
+      ∷ handle-cell-reasons z reads b h c
 
   unfoldable pub show-of : State → ℕ → ℕ → Outcome
   show-of s i c =
@@ -197,10 +197,10 @@ module _ (z : Size) where
   -- ---- Commit is judged as if granted. Granted, the written cells' drafts go into the table and the place becomes committed.
 
   unfoldable pub commit-reasons : ℕ → ℕ → ℕ → Books → ℕ → List Reason
-  commit-reasons table drafts log b h =
-      (lent if (wrong table (table-bytes z) || (wrong drafts (drafts-bytes z) || wrong log log-bytes)))
+  commit-reasons table-length drafts-length log-length b h =
+      (lent if (wrong table-length (table-bytes z) || (wrong drafts-length (drafts-bytes z) || wrong log-length log-bytes)))
       ∷ soundness-reason z b
-      ∷ handle-reasons z b h
+      ∷ handle-reasons z commits b h
 
   -- granted: the written cells' drafts go into the table
   abbrev pub judged-commit : State → ℕ → Judged
@@ -220,13 +220,13 @@ module _ (z : Size) where
   judged-commit-of s i = judged-of z s i (judged-commit s i)
 
   unfoldable pub commit-rule : ℕ → State → ℕ → Outcome
-  commit-rule log s h =
-      unless-refused (commit-reasons (length (s .table)) (length (s .drafts)) log (s .books) h) s (judged-commit-of s (place-of h))
+  commit-rule log-length s h =
+      unless-refused (commit-reasons (length (s .table)) (length (s .drafts)) log-length (s .books) h) s (judged-commit-of s (place-of h))
 
   -- ---- Give up frees the place.
 
   unfoldable pub give-up-reasons : ℕ → Books → ℕ → List Reason
-  give-up-reasons log b h = (lent if wrong log log-bytes) ∷ soundness-reason z b ∷ handle-reasons z b h
+  give-up-reasons log-length b h = (lent if wrong log-length log-bytes) ∷ soundness-reason z b ∷ handle-reasons z gives-up b h
 
   unfoldable pub give-up-of : State → ℕ → Outcome
   give-up-of s i =
@@ -235,17 +235,17 @@ module _ (z : Size) where
       recorded granted 0 (with-books s (with-place b i (freed p))) (record-at give-up-kind i p 0 no-value)
 
   unfoldable pub give-up-rule : ℕ → State → ℕ → Outcome
-  give-up-rule log s h = unless-refused (give-up-reasons log (s .books) h) s (give-up-of s (place-of h))
+  give-up-rule log-length s h = unless-refused (give-up-reasons log-length (s .books) h) s (give-up-of s (place-of h))
 
   -- ---- Post is begin, write and commit in one record. It writes the table, leaves the drafts, answers the handle, and is never judged.
 
   unfoldable pub post-reasons : ℕ → ℕ → ℕ → Books → ℕ → List Reason
-  post-reasons value table log b c =
-      (lent if (wrong value cell-bytes || (wrong table (table-bytes z) || wrong log log-bytes)))
+  post-reasons value-length table-length log-length b c =
+      (lent if (wrong value-length cell-bytes || (wrong table-length (table-bytes z) || wrong log-length log-bytes)))
       ∷ soundness-reason z b
       ∷ cell-reason z c
       ∷ (full if no-free z b)
-      ∷ room-reason z b 1
+      ∷ room-reason (b .records + 1) (live-count z b)
       ∷ []
 
   unfoldable pub post-of : State → ℕ → List ℕ → Outcome
@@ -258,19 +258,17 @@ module _ (z : Size) where
       (record-at post-kind i p c value)
 
   unfoldable pub post-rule : ℕ → State → ℕ → List ℕ → Outcome
-  post-rule log s c value =
-      unless-refused (post-reasons (length value) (length (s .table)) log (s .books) c) s (post-of s c value)
+  post-rule log-length s c value =
+      unless-refused (post-reasons (length value) (length (s .table)) log-length (s .books) c) s (post-of s c value)
 
   -- ---- Order answers a count n and puts the transaction's order into the first n numbers of the order buffer. It adds no record.
 
   -- the second reason for 2 comes after 3
   unfoldable pub order-reasons : ℕ → Books → ℕ → List Reason
-  order-reasons buffer b h =
-      (lent if wrong buffer (order-numbers z))
+  order-reasons buffer-length b h =
+      (lent if wrong buffer-length (order-numbers z))
       ∷ soundness-reason z b
-      ∷ (stale if is-stale z b h)
-      ∷ (unsound if has-cycle z b (place-of h))
-      ∷ []
+      ∷ (handle-reasons z orders b h ++ ((unsound if has-cycle z b (place-of h)) ∷ []))
 
   unfoldable pub order-of : State → ℕ → Outcome
   order-of s i =
@@ -278,13 +276,13 @@ module _ (z : Size) where
       record { number = granted; answer = length order; order = order; shown = empty; after = s; entry = nothing }
 
   unfoldable pub order-rule : ℕ → State → ℕ → Outcome
-  order-rule buffer s h = unless-refused (order-reasons buffer (s .books) h) s (order-of s (place-of h))
+  order-rule buffer-length s h = unless-refused (order-reasons buffer-length (s .books) h) s (order-of s (place-of h))
 
   -- ---- Close writes the trailer just after the last record, frees every place, keeps turns, sets records to 0.
 
   unfoldable pub close-reasons : ℕ → Books → List Reason
-  close-reasons log b =
-      (lent if wrong log log-bytes)
+  close-reasons log-length b =
+      (lent if wrong log-length log-bytes)
       ∷ soundness-reason z b
       ∷ (busy if anyBelow (λ i. is-live (place-at b i)) (z .places))
       ∷ []
@@ -302,4 +300,4 @@ module _ (z : Size) where
       }
 
   unfoldable pub close-rule : ℕ → ℕ → State → Outcome
-  close-rule log total s = unless-refused (close-reasons log (s .books)) s (close-of total s)
+  close-rule log-length total s = unless-refused (close-reasons log-length (s .books)) s (close-of total s)

@@ -7,6 +7,9 @@ ghost use Rattle.rules.specs.Sound.{is-clear, held-sound, commit-sound, place-s
 use reads::cells;
 use rules::Place;
 use rules::Size;
+use rules::statuses::COMMITTED;
+use rules::statuses::FREE;
+use rules::statuses::LIVE;
 
 // Zero in all but the turn.
 fn is_place_clear(p: Place, z: Size) -> bool
@@ -36,13 +39,13 @@ fn is_place_sound(p: Place, records: u16, z: Size) -> bool
     requires { ⌜ Within z ⌝ }
     ensures { λ r. ⌜ r ≡ place-sound z records p ⌝ }
 {
-    if p.status == 0 {
+    if p.status == FREE {
         return is_place_clear(p, z);
     }
-    if p.status == 1 {
+    if p.status == LIVE {
         return is_held_sound(p, records, z) && p.commit == 0;
     }
-    if p.status == 2 {
+    if p.status == COMMITTED {
         return is_held_sound(p, records, z) && is_commit_sound(p, records);
     }
     false

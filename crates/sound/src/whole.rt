@@ -7,6 +7,7 @@ use crate::clauses;
 use keys::apart;
 use rules::Place;
 use rules::Size;
+use rules::sizes::MOST_RECORDS;
 use survey::columns;
 
 // Whether the books of that record count and those places are sound.
@@ -15,7 +16,7 @@ pub fn are_sound(places: [Place; 32], records: u16, z: Size) -> bool
     ensures { λ r. ⌜ r ≡ sound z (books-of records places) ⌝ }
 {
     let seen = columns::columns_of(places, z);
-    if 4000 < records as u32 + seen.live {
+    if MOST_RECORDS < records as usize + seen.live as usize {
         return false;
     }
     let held = seen.held;

@@ -9,26 +9,8 @@ use Rattle.basics.proofs.Bytes.{splice-nothing}
 use Rattle.rules.specs.Numbers.{Reason, first-reason}
 use Rattle.rules.specs.State.{State, Outcome, nothing, entry-bytes, log-after, buffer-after, shown-bytes, shown-at, refused, unless-refused}
 use Rattle.recording.specs.declared.Step.{Step}
-use Rattle.steps.specs.Left.{LogIs, BufferIs, TableAndLog, DraftsAndLog, Shows}
+use Rattle.recording.specs.Left.{Leaves, LogIs, BufferIs, TableAndLog, DraftsAndLog, Shows}
 use Rattle.recording.specs.Stepped.{step-of, refused-step}
-
--- ---- what a call leaves, by the outcome of its rule
-
--- the step, and the log
-abbrev pub LeavesLog : ℕ → Step → List ℕ → List ℕ → Outcome → Type 0
-LeavesLog records step log after o = (step ≡ step-of o) × LogIs records log after o
-
--- the step, the table and the log
-abbrev pub LeavesTable : ℕ → Step → List ℕ → List ℕ → List ℕ → Outcome → Type 0
-LeavesTable records step table log after o = (step ≡ step-of o) × TableAndLog records table log after o
-
--- the step, the drafts and the log
-abbrev pub LeavesDrafts : ℕ → Step → List ℕ → List ℕ → List ℕ → Outcome → Type 0
-LeavesDrafts records step drafts log after o = (step ≡ step-of o) × DraftsAndLog records drafts log after o
-
--- the step and the order buffer
-abbrev pub LeavesBuffer : Step → List ℕ → List ℕ → Outcome → Type 0
-LeavesBuffer step buffer filled o = (step ≡ step-of o) × BufferIs buffer filled o
 
 -- ---- nothing added
 
@@ -68,21 +50,21 @@ module _ (reasons : List Reason) (s : State) (o : Outcome) {n : ℕ} (asked : n 
 
   -- a refused call leaves all as it was
   module _ (other : n ≢ 0) {step : Step} (step-is : step ≡ refused-step n (s .books .places) (s .books .records)) (log : List ℕ) where
-    pub refused-log : LeavesLog (s .books .records) step log log (unless-refused reasons s o)
+    pub refused-log : Leaves step-of step (LogIs (s .books .records) log log) (unless-refused reasons s o)
     unfolding refused
-    refused-log = when-refused (LeavesLog (s .books .records) step log log) other (step-is, log-stays (s .books .records) log)
+    refused-log = when-refused (Leaves step-of step (LogIs (s .books .records) log log)) other (step-is, log-stays (s .books .records) log)
 
-    pub refused-table : LeavesTable (s .books .records) step (s .table) log log (unless-refused reasons s o)
+    pub refused-table : Leaves step-of step (TableAndLog (s .books .records) (s .table) log log) (unless-refused reasons s o)
     unfolding refused
-    refused-table = when-refused (LeavesTable (s .books .records) step (s .table) log log) other (step-is, (refl, log-stays (s .books .records) log))
+    refused-table = when-refused (Leaves step-of step (TableAndLog (s .books .records) (s .table) log log)) other (step-is, (refl, log-stays (s .books .records) log))
 
-    pub refused-drafts : LeavesDrafts (s .books .records) step (s .drafts) log log (unless-refused reasons s o)
+    pub refused-drafts : Leaves step-of step (DraftsAndLog (s .books .records) (s .drafts) log log) (unless-refused reasons s o)
     unfolding refused
-    refused-drafts = when-refused (LeavesDrafts (s .books .records) step (s .drafts) log log) other (step-is, (refl, log-stays (s .books .records) log))
+    refused-drafts = when-refused (Leaves step-of step (DraftsAndLog (s .books .records) (s .drafts) log log)) other (step-is, (refl, log-stays (s .books .records) log))
 
-    pub refused-buffer : LeavesBuffer step log log (unless-refused reasons s o)
+    pub refused-buffer : Leaves step-of step (BufferIs log log) (unless-refused reasons s o)
     unfolding refused
-    refused-buffer = when-refused (LeavesBuffer step log log) other (step-is, buffer-stays log refl)
+    refused-buffer = when-refused (Leaves step-of step (BufferIs log log)) other (step-is, buffer-stays log refl)
 
   -- a refused show shows an empty part, at the table's front
   pub refused-shows : n ≢ 0 → (drafts table : List ℕ) (drafts-at table-at : ℕ × ℕ) → Shows drafts table drafts-at table-at [] (table-at .0, 0 + table-at .1) (unless-refused reasons s o)

@@ -17,6 +17,7 @@ use recording::Step;
 use recording::record;
 use rules::Place;
 use rules::Size;
+use rules::numbers::GRANTED;
 
 // Commit is judged as if granted; granted, the written cells' drafts go into the table.
 pub fn commit(
@@ -42,7 +43,7 @@ pub fn commit(
         drafts.len(),
         log.len(),
     );
-    if reason != 0 {
+    if reason != GRANTED {
         return record::refused(reason, places, records);
     }
     judged::commit(
@@ -63,7 +64,7 @@ pub fn give_up(places: [Place; 32], records: u16, z: Size, handle: u32, log: &mu
     ensures log { λ r. ⌜ now (log .exit) ≡ log-after records (give-up-rule z (length (now (log .entry))) (state-of (books-of records places) [] []) handle .entry) (now (log .entry)) ⌝ }
 {
     let number = asked::of_give_up(places, records, z, handle, log.len());
-    if number != 0 {
+    if number != GRANTED {
         return record::refused(number, places, records);
     }
     held::give_up(places, records, z, handle::place_of(handle), log)
@@ -76,7 +77,7 @@ pub fn close(places: [Place; 32], records: u16, z: Size, log: &mut [u8]) -> Step
     ensures log { λ r. ⌜ now (log .exit) ≡ log-after records (close-rule z (length (now (log .entry))) (commit-total (day-of (now (log .entry)) records)) (state-of (books-of records places) [] []) .entry) (now (log .entry)) ⌝ }
 {
     let number = asked::of_close(places, records, z, log.len());
-    if number != 0 {
+    if number != GRANTED {
         return record::refused(number, places, records);
     }
     whole_day::close(places, records, z, log)

@@ -16,6 +16,7 @@ use recording::Step;
 use recording::record;
 use rules::Place;
 use rules::Size;
+use rules::numbers::GRANTED;
 
 // Show gives the eight bytes in the draft or in the table themselves, or an empty part at the table's front.
 pub fn show<'a>(
@@ -42,7 +43,7 @@ pub fn show<'a>(
         table.len(),
         drafts.len(),
     );
-    if number != 0 {
+    if number != GRANTED {
         return &table[0..0];
     }
     let i = handle::place_of(handle);
@@ -58,7 +59,7 @@ pub fn order(places: [Place; 32], records: u16, z: Size, handle: u32, numbers: &
     ensures numbers { λ r. ⌜ now (numbers .exit) ≡ buffer-after (order-rule z (length (now (numbers .entry))) (state-of (books-of records places) [] []) handle .order) (now (numbers .entry)) ⌝ }
 {
     let number = asked::of_order(places, records, z, handle, numbers.len());
-    if number != 0 {
+    if number != GRANTED {
         return record::refused(number, places, records);
     }
     whole_day::order(places, records, z, handle::place_of(handle), numbers)

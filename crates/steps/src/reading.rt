@@ -16,6 +16,7 @@ use recording::Step;
 use recording::record;
 use rules::Place;
 use rules::Size;
+use rules::numbers::GRANTED;
 
 // Write puts the value in the place's draft of the cell and marks the cell written.
 pub fn write(
@@ -43,7 +44,7 @@ pub fn write(
         drafts.len(),
         log.len(),
     );
-    if reason != 0 {
+    if reason != GRANTED {
         return record::refused(reason, places, records);
     }
     held::write(
@@ -83,7 +84,7 @@ pub fn read(
         drafts.len(),
         log.len(),
     );
-    if number != 0 {
+    if number != GRANTED {
         return record::refused(number, places, records);
     }
     let i = handle::place_of(handle);

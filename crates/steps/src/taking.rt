@@ -14,6 +14,7 @@ use recording::Step;
 use recording::record;
 use rules::Place;
 use rules::Size;
+use rules::numbers::GRANTED;
 
 // Begin takes the lowest free place and answers the handle.
 pub fn begin(places: [Place; 32], records: u16, z: Size, log: &mut [u8]) -> Step
@@ -22,7 +23,7 @@ pub fn begin(places: [Place; 32], records: u16, z: Size, log: &mut [u8]) -> Step
     ensures log { λ r. ⌜ now (log .exit) ≡ log-after records (begin-rule z (length (now (log .entry))) (state-of (books-of records places) [] []) .entry) (now (log .entry)) ⌝ }
 {
     let reason = asked::of_begin(places, records, z, log.len());
-    if reason != 0 {
+    if reason != GRANTED {
         return record::refused(reason, places, records);
     }
     taken::begin(places, records, z, log)
@@ -52,7 +53,7 @@ pub fn post(
         table.len(),
         log.len(),
     );
-    if number != 0 {
+    if number != GRANTED {
         return record::refused(number, places, records);
     }
     taken::post(

@@ -6,6 +6,8 @@ ghost use Rattle.rules.specs.Books.{of-places, place-at, held-status};
 ghost use Rattle.survey.specs.Columned.{Columned};
 use rules::Place;
 use rules::Size;
+use rules::statuses::COMMITTED;
+use rules::statuses::LIVE;
 
 // How many are live; by place, who is held and who is committed, and the begin and commit records.
 // The arrays are twice as wide as there can be places, so that 32 more stand behind each: who is not there is not held and has no records.
@@ -21,7 +23,7 @@ pub struct Columns {
 fn is_held(status: u8) -> bool
     ensures { λ r. ⌜ r ≡ held-status status ⌝ }
 {
-    (status == 1) | (status == 2)
+    (status == LIVE) | (status == COMMITTED)
 }
 
 // All columns, in one pass.
@@ -38,10 +40,10 @@ pub fn columns_of(places: [Place; 32], z: Size) -> Columns
     while i < z.places {
         let p = places[i];
         held[i] = is_held(p.status);
-        committed[i] = p.status == 2;
+        committed[i] = p.status == COMMITTED;
         begins[i] = p.begin;
         commits[i] = p.commit;
-        if p.status == 1 {
+        if p.status == LIVE {
             live += 1;
         }
         i += 1;

@@ -4,6 +4,8 @@ ghost use Rattle.rules.specs.Sizes.{Within};
 ghost use Rattle.rules.specs.Books.{of-places, lowest-free, live-count};
 use rules::Place;
 use rules::Size;
+use rules::statuses::FREE;
+use rules::statuses::LIVE;
 
 // The lowest free place; the number of places if none is free.
 pub fn lowest_free_of(places: [Place; 32], z: Size) -> usize
@@ -12,7 +14,7 @@ pub fn lowest_free_of(places: [Place; 32], z: Size) -> usize
 {
     let mut free = 0;
     while free < z.places {
-        if places[free].status == 0 {
+        if places[free].status == FREE {
             return free;
         }
         free += 1;
@@ -28,7 +30,7 @@ pub fn live_count_of(places: [Place; 32], z: Size) -> u32
     let mut live: u32 = 0;
     let mut i = 0;
     while i < z.places {
-        if places[i].status == 1 {
+        if places[i].status == LIVE {
             live += 1;
         }
         i += 1;

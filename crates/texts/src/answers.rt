@@ -4,6 +4,8 @@ ghost use Prim.Native.Nat.{_*_, _≤_};
 ghost use lib.ListN.{length, take};
 ghost use Rattle.texts.specs.Said.{placed, then-number, then-value, number-line, handle-line, value-line, listed, order-line, celled, table-line, unknown-line};
 use crate::buffer;
+use rules::numbers::GRANTED;
+use rules::sizes::CELL_BYTES;
 
 // A number after a space, behind what is put already.
 fn then_number(out: &mut [u8], at: usize, n: u64) -> usize
@@ -34,7 +36,7 @@ pub fn handle(out: &mut [u8], name: &[u8], number: u8, handle: u32) -> usize
     ensures { λ r. ⌜ (now (out .exit), r) ≡ placed (now (out .entry)) 0 (handle-line (now (name .entry)) number handle) ⌝ }
 {
     let end = self::number(out, name, number);
-    if number != 0 {
+    if number != GRANTED {
         return end;
     }
     then_number(out, end, handle as u64)
@@ -45,7 +47,7 @@ pub fn value(out: &mut [u8], name: &[u8], number: u8, shown: &[u8]) -> usize
     ensures { λ r. ⌜ (now (out .exit), r) ≡ placed (now (out .entry)) 0 (value-line (now (name .entry)) number (now (shown .entry))) ⌝ }
 {
     let end = self::number(out, name, number);
-    if number != 0 {
+    if number != GRANTED {
         return end;
     }
     then_value(out, end, shown)
@@ -90,8 +92,8 @@ fn cells(out: &mut [u8], at: usize, table: &[u8], count: usize) -> usize
     let mut end = at;
     let mut i = 0;
     while i < count {
-        let from = 8 * i;
-        let to = from + 8;
+        let from = CELL_BYTES * i;
+        let to = from + CELL_BYTES;
         end = then_value(out, end, &table[from..to]);
         i += 1;
     }
@@ -103,7 +105,7 @@ pub fn table(out: &mut [u8], table: &[u8]) -> usize
     ensures { λ r. ⌜ (now (out .exit), r) ≡ placed (now (out .entry)) 0 (table-line (now (table .entry))) ⌝ }
 {
     let end = buffer::put(out, 0, b"table");
-    cells(out, end, table, table.len() / 8)
+    cells(out, end, table, table.len() / CELL_BYTES)
 }
 
 // A line of a script that is none of the calls, by its number.

@@ -3,14 +3,14 @@
 use Prim.Native.Nat.{ℕ, _+_, _*_, _%_}
 use mathlib.Core.Path.{_≡_}
 use mathlib.Core.Logic.{_↔_}
-use mathlib.Core.Bool.{false}
+use mathlib.Core.Bool.{true}
 use mathlib.Core.List.{List, _∷_, _++_}
 use lib.ListN.{length, take}
 use Rattle.basics.specs.Bytes.{part}
 use Rattle.basics.specs.Walk.{Cycle}
 use Rattle.rules.specs.declared.Record.{Record}
 use Rattle.rules.specs.Sizes.{yard, record-bytes}
-use Rattle.rules.specs.Handles.{is-stale}
+use Rattle.rules.specs.Handles.{good-handle}
 use Rattle.rules.specs.Numbers.{granted, conflict, no-order}
 use Rattle.rules.specs.Daylog.{standing, records-in, day-of}
 use Rattle.rules.specs.State.{state-of}
@@ -57,7 +57,7 @@ pub record GivesOrders (k : Known) : Type 0 where
       → x ≡ granted
   -- and one is given for every handle that is not stale
   pub given : (h : ℕ) (r : Answer) (numbers : List ℕ) → LeavesBuffer (k .held .numbers) (order-outcome (k .held .books) h (k .held .numbers)) r numbers
-      → is-stale yard (view (k .held .books)) h ≡ false → r .number ≡ granted
+      → good-handle yard (view (k .held .books)) h ≡ true → r .number ≡ granted
 
 -- ---- Conflict
 
@@ -87,7 +87,7 @@ pub record OfEveryRun : Type 0 where
       → DayStarts (view (r .books)) × Lends (with-log (k .held) (r .books) log)
   pub reads-back : (k : Known) → Run k → ReadsBack k
   -- a handle that is not stale names the transaction of the begin or post that answered it
-  pub handles : (k : Known) → Run k → (h : ℕ) → is-stale yard (view (k .held .books)) h ≡ false → AnsweredBy (k .day) h
+  pub handles : (k : Known) → Run k → (h : ℕ) → good-handle yard (view (k .held .books)) h ≡ true → AnsweredBy (k .day) h
   pub orders : (k : Known) → Run k → GivesOrders k
   pub conflicts : (k : Known) → Run k → MeetsConflict k
   -- conflict local opacity and permissiveness, as source document 000 has them

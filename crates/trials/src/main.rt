@@ -2,6 +2,14 @@
 // behind the state that it found.
 use libc::STDOUT_FILENO;
 use machine::books::Books;
+use rules::sizes::CELL_BYTES;
+use rules::sizes::DRAFTS_BYTES;
+use rules::sizes::HANDLES_A_TURN;
+use rules::sizes::LOG_BYTES;
+use rules::sizes::PLACES;
+use rules::sizes::TABLE_BYTES;
+use rules::statuses::COMMITTED;
+use rules::statuses::LIVE;
 use texts::buffer;
 
 // Ends the line that is put together in a buffer, and writes it.
@@ -29,7 +37,7 @@ fn with_status(books: Books, status: u8) -> u64 {
     let places = books.places;
     let mut n = 0;
     let mut i = 0;
-    while i < 32 {
+    while i < PLACES {
         if places[i].status == status {
             n += 1;
         }
@@ -42,8 +50,13 @@ fn with_status(books: Books, status: u8) -> u64 {
 fn say_state(books: Books, name: &[u8], number: u8) {
     let mut out = [0u8; 128];
     let records = then(&mut out, 0, b"records ", books.records as u64);
-    let live = then(&mut out, records, b" live ", with_status(books, 1));
-    let committed = then(&mut out, live, b" committed ", with_status(books, 2));
+    let live = then(&mut out, records, b" live ", with_status(books, LIVE));
+    let committed = then(
+        &mut out,
+        live,
+        b" committed ",
+        with_status(books, COMMITTED),
+    );
     print_call(&mut out, committed, name, number);
 }
 
@@ -51,8 +64,13 @@ fn say_state(books: Books, name: &[u8], number: u8) {
 fn say_handle(handle: u32, name: &[u8], number: u8) {
     let mut out = [0u8; 128];
     let named = then(&mut out, 0, b"handle ", handle as u64);
-    let place = then(&mut out, named, b" place ", (handle % 32) as u64);
-    let turn = then(&mut out, place, b" turn ", (handle / 32) as u64);
+    let place = then(
+        &mut out,
+        named,
+        b" place ",
+        (handle % HANDLES_A_TURN) as u64,
+    );
+    let turn = then(&mut out, place, b" turn ", (handle / HANDLES_A_TURN) as u64);
     print_call(&mut out, turn, name, number);
 }
 
@@ -94,7 +112,7 @@ fn posts(start: Books, count: u32, table: &mut [u8], log: &mut [u8]) -> Books {
     let mut books = start;
     let mut i = 0;
     while i < count {
-        let posted = books.post(0, &[0; 8], table, log);
+        let posted = books.post(0, &[0; CELL_BYTES], table, log);
         books = posted.books;
         i += 1;
     }
@@ -116,7 +134,11 @@ fn days(start: Books, count: u32, table: &mut [u8], log: &mut [u8]) -> Books {
 }
 
 // Records 3,998, none live: begin granted. 3,999, one live: read 7, commit goes on.
-fn try_last_begin(table: &mut [u8; 256], drafts: &mut [u8; 8192], log: &mut [u8; 64016]) {
+fn try_last_begin(
+    table: &mut [u8; TABLE_BYTES],
+    drafts: &mut [u8; DRAFTS_BYTES],
+    log: &mut [u8; LOG_BYTES],
+) {
     let books = pairs(Books::open(), 1999, log);
     let begun = books.begin(log);
     say_state(books, b"begin", begun.number);
@@ -128,17 +150,17 @@ fn try_last_begin(table: &mut [u8; 256], drafts: &mut [u8; 8192], log: &mut [u8;
 }
 
 // Records 3,999, none live: begin 7, post granted.
-fn try_last_post(table: &mut [u8; 256], log: &mut [u8; 64016]) {
+fn try_last_post(table: &mut [u8; TABLE_BYTES], log: &mut [u8; LOG_BYTES]) {
     let posted = posts(Books::open(), 1, table, log);
     let books = pairs(posted, 1999, log);
     let begun = books.begin(log);
     say_state(books, b"begin", begun.number);
-    let post = books.post(0, &[0; 8], table, log);
+    let post = books.post(0, &[0; CELL_BYTES], table, log);
     say_state(books, b"post", post.number);
 }
 
 // 32 held: begin 6. One gives up: next begin takes its place, turn one up.
-fn try_full(log: &mut [u8; 64016]) {
+fn try_full(log: &mut [u8; LOG_BYTES]) {
     let books = begins(Books::open(), 32, log);
     let begun = books.begin(log);
     say_state(books, b"begin", begun.number);
@@ -151,7 +173,11 @@ fn try_full(log: &mut [u8; 64016]) {
 
 // Handle 2,097,151 names place 31, turn 65,535; 2,097,152 is Stale. Turn 65,535: next is 0. Posts hold the places below 31, so that each begin
 // takes that one: 33 days of 1,984 begins and 62 more bring it to turn 65,534.
-fn try_last_turn(table: &mut [u8; 256], drafts: &mut [u8; 8192], log: &mut [u8; 64016]) {
+fn try_last_turn(
+    table: &mut [u8; TABLE_BYTES],
+    drafts: &mut [u8; DRAFTS_BYTES],
+    log: &mut [u8; LOG_BYTES],
+) {
     let closed = days(Books::open(), 33, table, log);
     let posted = posts(closed, 31, table, log);
     let books = pairs(posted, 62, log);
@@ -170,18 +196,18 @@ fn try_last_turn(table: &mut [u8; 256], drafts: &mut [u8; 8192], log: &mut [u8; 
 }
 
 // Cell 32 or more: 5.
-fn try_last_cell(table: &mut [u8; 256], log: &mut [u8; 64016]) {
+fn try_last_cell(table: &mut [u8; TABLE_BYTES], log: &mut [u8; LOG_BYTES]) {
     let books = Books::open();
-    let last = books.post(31, &[0; 8], table, log);
+    let last = books.post(31, &[0; CELL_BYTES], table, log);
     say_number(b"cell ", 31, b"post", last.number);
-    let past = books.post(32, &[0; 8], table, log);
+    let past = books.post(32, &[0; CELL_BYTES], table, log);
     say_number(b"cell ", 32, b"post", past.number);
 }
 
 fn main() {
-    let mut table = [0u8; 256];
-    let mut drafts = [0u8; 8192];
-    let mut log = [0u8; 64016];
+    let mut table = [0u8; TABLE_BYTES];
+    let mut drafts = [0u8; DRAFTS_BYTES];
+    let mut log = [0u8; LOG_BYTES];
     try_last_begin(&mut table, &mut drafts, &mut log);
     try_last_post(&mut table, &mut log);
     try_full(&mut log);

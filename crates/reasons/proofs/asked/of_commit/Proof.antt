@@ -6,6 +6,7 @@ use borrow.Author.Needs.{needs}
 use Rattle.rules.specs.Sizes.{table-bytes, drafts-bytes, log-bytes}
 use Rattle.rules.specs.Numbers.{lent, wrong}
 use Rattle.rules.specs.Steps.{commit-reasons}
+use Rattle.place.specs.Calls.{caller}
 use Rattle.reasons.proofs.First.{is-first, is-next}
 use Rattle.reasons.proofs.asked.of_commit.Statement.{statement}
 use Rattle.reasons.proofs.asked.of_commit.Tie as tie
@@ -31,7 +32,7 @@ of-handle-requires : tie.Need-of-handle-requires
 of-handle-requires c κs = search needs
 
 returns-2 : tie.Need-returns-2
-unfolding commit-reasons
+unfolding commit-reasons caller
 returns-2 c = is-next lent (lengths (c .before .before)) _ (c .before .if1 .left) (c .of-handle .ensures)
 
 pub of-commit-spec : {M : Type 1} → statement M

@@ -4,6 +4,7 @@ use borrow.Author.Needs.{needs}
 use Rattle.rules.specs.Sizes.{log-bytes}
 use Rattle.rules.specs.Numbers.{lent}
 use Rattle.rules.specs.Steps.{give-up-reasons}
+use Rattle.place.specs.Calls.{caller}
 use Rattle.reasons.proofs.First.{is-first, is-next}
 use Rattle.reasons.proofs.Parts.{is-wrong, is-right}
 use Rattle.reasons.proofs.asked.of_give_up.Statement.{statement}
@@ -17,7 +18,7 @@ of-handle-requires : tie.Need-of-handle-requires
 of-handle-requires c κs = search needs
 
 returns-2 : tie.Need-returns-2
-unfolding give-up-reasons
+unfolding give-up-reasons caller
 returns-2 c = is-next lent (is-right (c .before .before .args .log) log-bytes (c .before .if1 .left)) _ refl (c .of-handle .ensures)
 
 pub of-give-up-spec : {M : Type 1} → statement M

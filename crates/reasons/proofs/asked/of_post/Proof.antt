@@ -1,17 +1,17 @@
 -- `reasons::asked::of_post` asks for three lengths, the books, the cell, a free place and the log's room.
--- Rests on the contracts of `table_bytes`, `any_wrong`, `are_sound`, `of_cell` and `of_free`.
-use Prim.Native.Nat.{ℕ}
-use mathlib.Core.Path.{_≡_}
+-- Rests on the contracts of `table_bytes`, `any_wrong`, `are_sound`, `of_cell`, `live_count_of` and `of_free`.
+use Prim.Native.Nat.{ℕ, _+_}
+use mathlib.Core.Path.{_≡_, _∙_, ap}
 use mathlib.Core.Bool.{_||_}
 use mathlib.Core.List.{List, [], _∷_, _++_}
 use borrow.Author.Needs.{needs}
 use borrow.Author.Tests.{not-true, not-false}
 use Rattle.rules.specs.Sizes.{cell-bytes, table-bytes, log-bytes}
-use Rattle.rules.specs.Books.{Books, books-of, no-free}
+use Rattle.rules.specs.Books.{Books, books-of, no-free, live-count}
 use Rattle.rules.specs.Numbers.{lent, full, wrong, Reason, _if_, first-reason}
 use Rattle.rules.specs.Steps.{post-reasons, cell-reason, room-reason}
 use Rattle.reasons.proofs.First.{is-first, is-next, run-first, run-next}
-use Rattle.reasons.proofs.Parts.{unsound-first, sound-next, cell-numbered}
+use Rattle.reasons.proofs.Parts.{unsound-first, sound-next, cell-numbered, live-seen}
 use Rattle.reasons.proofs.asked.of_post.Statement.{statement}
 use Rattle.reasons.proofs.asked.of_post.Tie as tie
 
@@ -19,12 +19,15 @@ use Rattle.reasons.proofs.asked.of_post.Tie as tie
 abbrev books : tie.Start → Books
 books s = books-of (s .args .records) (s .args .places)
 
--- the cell's reason, those after it, and those after the books
+-- the cell's reason, those after it (with so many live ones), and those after the books
 abbrev cell : tie.Start → List Reason
 cell s = cell-reason (s .args .z) (s .args .cell) ∷ []
 
+abbrev left-with : tie.Start → ℕ → List Reason
+left-with s live = (full if no-free (s .args .z) (books s)) ∷ room-reason (s .args .records + 1) live ∷ []
+
 abbrev places-left : tie.Start → List Reason
-places-left s = (full if no-free (s .args .z) (books s)) ∷ room-reason (s .args .z) (books s) 1 ∷ []
+places-left s = left-with s (live-count (s .args .z) (books s))
 
 abbrev later : tie.Start → List Reason
 later s = cell s ++ places-left s
@@ -72,14 +75,21 @@ returns-3 c =
     let s = passed .before .before .before .before .before in
     books-pass passed (run-first (cell s) (places-left s) (c .before .of-cell .ensures) (c .if3 .taken))
 
+live-count-of-requires : tie.Need-live-count-of-requires
+live-count-of-requires c κs = search needs
+
 of-free-requires : tie.Need-of-free-requires
 of-free-requires c κs = search needs
 
 returns-4 : tie.Need-returns-4
 returns-4 c =
-    let passed = c .before .before .before in
+    let counted = c .before in
+    let asked = counted .before .before in
+    let passed = asked .before in
     let s = passed .before .before .before .before .before in
-    books-pass passed (run-next (cell s) (places-left s) (cell-numbered (s .args .z) (s .args .cell)) (c .before .before .of-cell .ensures) (c .before .if3 .left) (c .of-free .ensures))
+    books-pass passed
+    (run-next (cell s) (places-left s) (cell-numbered (s .args .z) (s .args .cell)) (asked .of-cell .ensures) (counted .before .if3 .left)
+    (c .of-free .ensures ∙ ap (λ n. first-reason (left-with s n)) (live-seen (s .args .z) (books s) (counted .live-count-of .ensures))))
 
 pub of-post-spec : {M : Type 1} → statement M
 of-post-spec =
@@ -92,5 +102,6 @@ of-post-spec =
     returns-2
     of-cell-requires
     returns-3
+    live-count-of-requires
     of-free-requires
     returns-4)

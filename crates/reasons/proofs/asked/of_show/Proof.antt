@@ -6,8 +6,10 @@ use mathlib.Core.List.{List}
 use borrow.Author.Needs.{needs}
 use Rattle.rules.specs.Sizes.{table-bytes, drafts-bytes}
 use Rattle.rules.specs.Books.{books-of}
+use Rattle.rules.specs.Handles.{reads}
 use Rattle.rules.specs.Numbers.{lent, wrong, Reason}
 use Rattle.rules.specs.Steps.{show-reasons, handle-cell-reasons}
+use Rattle.place.specs.Calls.{caller}
 use Rattle.reasons.proofs.First.{is-first, is-next}
 use Rattle.reasons.proofs.Parts.{is-wrong, is-right}
 use Rattle.reasons.proofs.asked.of_show.Statement.{statement}
@@ -15,7 +17,7 @@ use Rattle.reasons.proofs.asked.of_show.Tie as tie
 
 -- the reasons after the lengths
 abbrev later : tie.Start → List Reason
-later s = handle-cell-reasons (s .args .z) (books-of (s .args .records) (s .args .places)) (s .args .handle) (s .args .cell)
+later s = handle-cell-reasons (s .args .z) reads (books-of (s .args .records) (s .args .places)) (s .args .handle) (s .args .cell)
 
 returns : tie.Need-returns
 unfolding show-reasons
@@ -45,7 +47,7 @@ of-handle-and-cell-requires : tie.Need-of-handle-and-cell-requires
 of-handle-and-cell-requires c κs = search needs
 
 returns-3 : tie.Need-returns-3
-unfolding show-reasons
+unfolding show-reasons caller
 returns-3 c =
     let passed = c .before .before .before .before .before in
     let s = passed .before in

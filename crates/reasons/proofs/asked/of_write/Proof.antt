@@ -6,6 +6,7 @@ use borrow.Author.Needs.{needs}
 use Rattle.rules.specs.Sizes.{cell-bytes, drafts-bytes, log-bytes}
 use Rattle.rules.specs.Numbers.{lent, wrong}
 use Rattle.rules.specs.Steps.{write-reasons}
+use Rattle.place.specs.Calls.{caller}
 use Rattle.reasons.proofs.First.{is-first, is-next}
 use Rattle.reasons.proofs.asked.of_write.Statement.{statement}
 use Rattle.reasons.proofs.asked.of_write.Tie as tie
@@ -28,7 +29,7 @@ of-access-requires : tie.Need-of-access-requires
 of-access-requires c κs = search needs
 
 returns-2 : tie.Need-returns-2
-unfolding write-reasons
+unfolding write-reasons caller
 returns-2 c = is-next lent (lengths (c .before .before)) _ (c .before .if1 .left) (c .of-access .ensures)
 
 pub of-write-spec : {M : Type 1} → statement M

@@ -1,4 +1,5 @@
 -- `reasons::shared::of_free` asks for a free place and for the log's room. Rests on the contracts of `lowest_free_of` and `of_room`.
+use Prim.Native.Nat.{_+_}
 use mathlib.Core.List.{[], _∷_}
 use borrow.Author.Needs.{needs}
 use Rattle.rules.specs.Books.{Books, books-of}
@@ -17,7 +18,10 @@ lowest-free-of-requires c κs = search needs
 returns : tie.Need-returns
 returns c =
     let s = c .before .before .before in
-    full-first (s .args .z) (books s) (room-reason (s .args .z) (books s) (s .args .more) ∷ []) (c .before .before .lowest-free-of .ensures) (c .if1 .taken)
+    full-first (s .args .z) (books s) (room-reason (s .args .records + 1) (s .args .live) ∷ []) (c .before .before .lowest-free-of .ensures) (c .if1 .taken)
+
+add-of-room : tie.Need-add-of-room
+add-of-room c = search needs
 
 of-room-requires : tie.Need-of-room-requires
 of-room-requires c κs = search needs
@@ -25,7 +29,7 @@ of-room-requires c κs = search needs
 returns-2 : tie.Need-returns-2
 returns-2 c =
     let s = c .before .before .before .before in
-    full-next (s .args .z) (books s) (room-reason (s .args .z) (books s) (s .args .more) ∷ []) (c .before .before .before .lowest-free-of .ensures) (c .before .if1 .left) (c .of-room .ensures)
+    full-next (s .args .z) (books s) (room-reason (s .args .records + 1) (s .args .live) ∷ []) (c .before .before .before .lowest-free-of .ensures) (c .before .if1 .left) (c .of-room .ensures)
 
 pub of-free-spec : {M : Type 1} → statement M
-of-free-spec = tie.close (tie.spec lowest-free-of-requires returns of-room-requires returns-2)
+of-free-spec = tie.close (tie.spec lowest-free-of-requires returns add-of-room of-room-requires returns-2)

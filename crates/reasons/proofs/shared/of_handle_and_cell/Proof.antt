@@ -4,6 +4,7 @@ use borrow.Author.Needs.{needs}
 use Rattle.rules.specs.Books.{Books, books-of}
 use Rattle.rules.specs.Numbers.{Reason}
 use Rattle.rules.specs.Steps.{cell-reason, handle-cell-reasons}
+use Rattle.place.specs.Calls.{caller}
 use Rattle.reasons.proofs.First.{run-first, run-next}
 use Rattle.reasons.proofs.Parts.{handle-run, handle-numbered}
 use Rattle.reasons.proofs.shared.of_handle_and_cell.Statement.{statement}
@@ -15,7 +16,7 @@ books s = books-of (s .args .records) (s .args .places)
 
 -- the reasons of the books and the handle, and the cell's
 abbrev earlier : tie.Start → List Reason
-earlier s = handle-run (s .args .z) (books s) (s .args .handle)
+earlier s = handle-run (s .args .z) (books s) (caller (s .args .call)) (s .args .handle)
 
 abbrev later : tie.Start → List Reason
 later s = cell-reason (s .args .z) (s .args .cell) ∷ []
@@ -36,7 +37,7 @@ returns-2 : tie.Need-returns-2
 unfolding handle-cell-reasons
 returns-2 c =
     let s = c .before .before .before in
-    run-next (earlier s) (later s) (handle-numbered (s .args .z) (books s) (s .args .handle)) (c .before .before .of-handle .ensures) (c .before .if1 .left) (c .of-cell .ensures)
+    run-next (earlier s) (later s) (handle-numbered (s .args .z) (books s) (caller (s .args .call)) (s .args .handle)) (c .before .before .of-handle .ensures) (c .before .if1 .left) (c .of-cell .ensures)
 
 pub of-handle-and-cell-spec : {M : Type 1} → statement M
 of-handle-and-cell-spec =

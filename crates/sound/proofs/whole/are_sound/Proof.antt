@@ -81,6 +81,9 @@ start c = seen c .before
 columns-of-requires : tie.Need-columns-of-requires
 columns-of-requires c κs = search needs
 
+cast-if1 : tie.Need-cast-if1
+cast-if1 c = let s = c .before .before in omega (arith, counted-live (c .before), live-at-most (s .args .z) (books s))
+
 add-if1 : tie.Need-add-if1
 add-if1 c = let s = c .before .before in omega (arith, counted-live (c .before), live-at-most (s .args .z) (books s))
 
@@ -133,6 +136,7 @@ are-sound-spec =
     tie.close
     (tie.spec
     columns-of-requires
+    cast-if1
     add-if1
     returns
     each-sound-requires

@@ -1,6 +1,8 @@
 -- `steps::ending::close` is close's rule: refused by its first reason, or closed. Rests on what the reasons, the refusal and the close are.
 use denote.Ref.{now}
-use Rattle.steps.proofs.Either.{LeavesLog, refused-log, when-granted}
+use Rattle.recording.specs.Left.{Leaves, LogIs}
+use Rattle.recording.specs.Stepped.{step-of}
+use Rattle.steps.proofs.Either.{refused-log, when-granted}
 use Rattle.steps.proofs.Known.{close-known}
 use Rattle.rules.specs.Steps.{close-rule}
 use borrow.Author.Needs.{needs}
@@ -30,7 +32,7 @@ returns-2 : tie.Need-returns-2
 unfolding close-rule
 returns-2 c =
     let a = c .before .before .before .before .before .before .before .args in
-    when-granted _ _ _ (c .before .before .before .before .before .of-close .ensures) (LeavesLog (a .records) (c .before .before .close .result) (now (a .log)) _) (c .before .before .before .before .if1 .left) (c .before .before .close .ensures)
+    when-granted _ _ _ (c .before .before .before .before .before .of-close .ensures) (Leaves step-of (c .before .before .close .result) (LogIs (a .records) (now (a .log)) _)) (c .before .before .before .before .if1 .left) (c .before .before .close .ensures)
 
 pub close-spec : {M : Type 1} → statement M
 close-spec =

@@ -1,6 +1,8 @@
 -- `steps::ending::commit` is commit's rule: refused by its first reason, or judged. Rests on what the reasons, the refusal and the judged commit are.
 use denote.Ref.{now}
-use Rattle.steps.proofs.Either.{LeavesTable, refused-table, when-granted-at}
+use Rattle.recording.specs.Left.{Leaves, TableAndLog}
+use Rattle.recording.specs.Stepped.{step-of}
+use Rattle.steps.proofs.Either.{refused-table, when-granted-at}
 use Rattle.steps.proofs.Known.{commit-known}
 use Rattle.rules.specs.Books.{books-of}
 use Rattle.rules.specs.State.{state-of}
@@ -40,7 +42,7 @@ unfolding commit-rule
 returns-2 c =
     let a = c .before .before .before .before .before .before .before .before .before .before .before .before .before .args in
     let s = state-of (books-of (a .records) (a .places)) (now (a .table)) (now (a .drafts)) in
-    when-granted-at _ s _ (c .before .before .before .before .before .before .before .before .before .of-commit .ensures) (LeavesTable (a .records) (c .before .before .before .before .commit .result) _ (now (a .log)) _) (λ i. judged-commit-of (a .z) s i) refl (c .before .before .before .before .before .before .before .place-of .ensures) (c .before .before .before .before .before .before .before .before .if1 .left) (c .before .before .before .before .commit .ensures)
+    when-granted-at _ s _ (c .before .before .before .before .before .before .before .before .before .of-commit .ensures) (Leaves step-of (c .before .before .before .before .commit .result) (TableAndLog (a .records) _ (now (a .log)) _)) (λ i. judged-commit-of (a .z) s i) refl (c .before .before .before .before .before .before .before .place-of .ensures) (c .before .before .before .before .before .before .before .before .if1 .left) (c .before .before .before .before .commit .ensures)
 
 pub commit-spec : {M : Type 1} → statement M
 commit-spec =

@@ -1,6 +1,8 @@
 -- `steps::ending::give_up` is give up's rule: refused by its first reason, or given up. Rests on what the reasons, the refusal and the give up are.
 use denote.Ref.{now}
-use Rattle.steps.proofs.Either.{LeavesLog, refused-log, when-granted-at}
+use Rattle.recording.specs.Left.{Leaves, LogIs}
+use Rattle.recording.specs.Stepped.{step-of}
+use Rattle.steps.proofs.Either.{refused-log, when-granted-at}
 use Rattle.steps.proofs.Known.{give-up-known}
 use Rattle.rules.specs.Books.{books-of}
 use Rattle.rules.specs.State.{state-of}
@@ -38,7 +40,7 @@ unfolding give-up-rule
 returns-2 c =
     let a = c .before .before .before .before .before .before .before .before .args in
     let s = state-of (books-of (a .records) (a .places)) [] [] in
-    when-granted-at _ s _ (c .before .before .before .before .before .before .of-give-up .ensures) (LeavesLog (a .records) (c .before .before .give-up .result) (now (a .log)) _) (λ i. give-up-of (a .z) s i) refl (c .before .before .before .before .place-of .ensures) (c .before .before .before .before .before .if1 .left) (c .before .before .give-up .ensures)
+    when-granted-at _ s _ (c .before .before .before .before .before .before .of-give-up .ensures) (Leaves step-of (c .before .before .give-up .result) (LogIs (a .records) (now (a .log)) _)) (λ i. give-up-of (a .z) s i) refl (c .before .before .before .before .place-of .ensures) (c .before .before .before .before .before .if1 .left) (c .before .before .give-up .ensures)
 
 pub give-up-spec : {M : Type 1} → statement M
 give-up-spec =

@@ -1,6 +1,8 @@
 -- `steps::looking::order` is order's rule: refused by its first reason, or given. Rests on what the reasons, the refusal and the order are.
 use denote.Ref.{now}
-use Rattle.steps.proofs.Either.{LeavesBuffer, refused-buffer, when-granted-at}
+use Rattle.recording.specs.Left.{Leaves, BufferIs}
+use Rattle.recording.specs.Stepped.{step-of}
+use Rattle.steps.proofs.Either.{refused-buffer, when-granted-at}
 use Rattle.steps.proofs.Known.{order-known}
 use Rattle.rules.specs.Books.{books-of}
 use Rattle.rules.specs.State.{state-of}
@@ -38,7 +40,7 @@ unfolding order-rule
 returns-2 c =
     let a = c .before .before .before .before .before .before .before .before .args in
     let s = state-of (books-of (a .records) (a .places)) [] [] in
-    when-granted-at _ s _ (c .before .before .before .before .before .before .of-order .ensures) (LeavesBuffer (c .before .before .order .result) (now (a .numbers)) _) (λ i. order-of (a .z) s i) refl (c .before .before .before .before .place-of .ensures) (c .before .before .before .before .before .if1 .left) (c .before .before .order .ensures)
+    when-granted-at _ s _ (c .before .before .before .before .before .before .of-order .ensures) (Leaves step-of (c .before .before .order .result) (BufferIs (now (a .numbers)) _)) (λ i. order-of (a .z) s i) refl (c .before .before .before .before .place-of .ensures) (c .before .before .before .before .before .if1 .left) (c .before .before .order .ensures)
 
 pub order-spec : {M : Type 1} → statement M
 order-spec =

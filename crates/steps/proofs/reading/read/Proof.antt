@@ -1,6 +1,8 @@
 -- `steps::reading::read` is read's rule: refused by its first reason, or read. Rests on what the reasons, the refusal and the read are.
 use denote.Ref.{now}
-use Rattle.steps.proofs.Either.{LeavesLog, refused-log, when-granted-at}
+use Rattle.recording.specs.Left.{Leaves, LogIs}
+use Rattle.recording.specs.Stepped.{step-of}
+use Rattle.steps.proofs.Either.{refused-log, when-granted-at}
 use Rattle.steps.proofs.Known.{read-known}
 use Rattle.rules.specs.Books.{books-of}
 use Rattle.rules.specs.State.{state-of}
@@ -37,7 +39,7 @@ unfolding read-rule
 returns-2 c =
     let a = c .before .before .before .before .before .before .before .before .before .before .args in
     let s = state-of (books-of (a .records) (a .places)) (now (a .table)) (now (a .drafts)) in
-    when-granted-at _ s _ (c .before .before .before .before .before .before .of-read .ensures) (LeavesLog (a .records) (c .before .before .read .result) (now (a .log)) _) (λ i. read-of (a .z) s i (a .cell)) refl (c .before .before .before .before .place-of .ensures) (c .before .before .before .before .before .if1 .left) (c .before .before .read .ensures)
+    when-granted-at _ s _ (c .before .before .before .before .before .before .of-read .ensures) (Leaves step-of (c .before .before .read .result) (LogIs (a .records) (now (a .log)) _)) (λ i. read-of (a .z) s i (a .cell)) refl (c .before .before .before .before .place-of .ensures) (c .before .before .before .before .before .if1 .left) (c .before .before .read .ensures)
 
 pub read-spec : {M : Type 1} → statement M
 read-spec =

@@ -1,6 +1,8 @@
 -- `steps::reading::write` is write's rule: refused by its first reason, or written. Rests on what the reasons, the refusal and the write are.
 use denote.Ref.{now}
-use Rattle.steps.proofs.Either.{LeavesDrafts, refused-drafts, when-granted-with}
+use Rattle.recording.specs.Left.{Leaves, DraftsAndLog}
+use Rattle.recording.specs.Stepped.{step-of}
+use Rattle.steps.proofs.Either.{refused-drafts, when-granted-with}
 use Rattle.steps.proofs.Known.{write-known}
 use Rattle.rules.specs.Books.{books-of}
 use Rattle.rules.specs.State.{state-of}
@@ -46,7 +48,7 @@ unfolding write-rule
 returns-2 c =
     let a = c .before .before .before .before .before .before .before .before .before .before .before .before .before .before .args in
     let s = state-of (books-of (a .records) (a .places)) [] (now (a .drafts)) in
-    when-granted-with _ s _ (c .before .before .before .before .before .before .before .before .before .before .of-write .ensures) (LeavesDrafts (a .records) (c .before .before .before .before .write .result) _ (now (a .log)) _) (λ i v. write-of (a .z) s i (a .cell) v) refl (c .before .before .before .before .before .before .before .before .place-of .ensures) (c .before .before .before .before .before .before .before .value-of .ensures) (c .before .before .before .before .before .before .before .before .before .if1 .left) (c .before .before .before .before .write .ensures)
+    when-granted-with _ s _ (c .before .before .before .before .before .before .before .before .before .before .of-write .ensures) (Leaves step-of (c .before .before .before .before .write .result) (DraftsAndLog (a .records) _ (now (a .log)) _)) (λ i v. write-of (a .z) s i (a .cell) v) refl (c .before .before .before .before .before .before .before .before .place-of .ensures) (c .before .before .before .before .before .before .before .value-of .ensures) (c .before .before .before .before .before .before .before .before .before .if1 .left) (c .before .before .before .before .write .ensures)
 
 pub write-spec : {M : Type 1} → statement M
 write-spec =

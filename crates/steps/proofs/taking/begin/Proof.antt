@@ -1,6 +1,8 @@
 -- `steps::taking::begin` is begin's rule: refused by its first reason, or begun. Rests on what the reasons, the refusal and the begin are.
 use denote.Ref.{now}
-use Rattle.steps.proofs.Either.{LeavesLog, refused-log, when-granted}
+use Rattle.recording.specs.Left.{Leaves, LogIs}
+use Rattle.recording.specs.Stepped.{step-of}
+use Rattle.steps.proofs.Either.{refused-log, when-granted}
 use Rattle.steps.proofs.Known.{begin-known}
 use Rattle.rules.specs.Steps.{begin-rule}
 use borrow.Author.Needs.{needs}
@@ -30,7 +32,7 @@ returns-2 : tie.Need-returns-2
 unfolding begin-rule
 returns-2 c =
     let a = c .before .before .before .before .before .before .before .args in
-    when-granted _ _ _ (c .before .before .before .before .before .of-begin .ensures) (LeavesLog (a .records) (c .before .before .begin .result) (now (a .log)) _) (c .before .before .before .before .if1 .left) (c .before .before .begin .ensures)
+    when-granted _ _ _ (c .before .before .before .before .before .of-begin .ensures) (Leaves step-of (c .before .before .begin .result) (LogIs (a .records) (now (a .log)) _)) (c .before .before .before .before .if1 .left) (c .before .before .begin .ensures)
 
 pub begin-spec : {M : Type 1} → statement M
 begin-spec =

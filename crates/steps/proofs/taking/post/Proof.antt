@@ -1,6 +1,8 @@
 -- `steps::taking::post` is post's rule: refused by its first reason, or posted. Rests on what the reasons, the refusal and the post are.
 use denote.Ref.{now}
-use Rattle.steps.proofs.Either.{LeavesTable, refused-table, when-granted-with}
+use Rattle.recording.specs.Left.{Leaves, TableAndLog}
+use Rattle.recording.specs.Stepped.{step-of}
+use Rattle.steps.proofs.Either.{refused-table, when-granted-with}
 use Rattle.steps.proofs.Known.{post-known}
 use Rattle.rules.specs.Books.{books-of}
 use Rattle.rules.specs.State.{state-of}
@@ -43,7 +45,7 @@ unfolding post-rule
 returns-2 c =
     let a = c .before .before .before .before .before .before .before .before .before .before .before .before .before .args in
     let s = state-of (books-of (a .records) (a .places)) (now (a .table)) [] in
-    when-granted-with _ s _ (c .before .before .before .before .before .before .before .before .before .of-post .ensures) (LeavesTable (a .records) (c .before .before .before .before .post .result) _ (now (a .log)) _) (λ i v. post-of (a .z) s i v) refl refl (c .before .before .before .before .before .before .before .value-of .ensures) (c .before .before .before .before .before .before .before .before .if1 .left) (c .before .before .before .before .post .ensures)
+    when-granted-with _ s _ (c .before .before .before .before .before .before .before .before .before .of-post .ensures) (Leaves step-of (c .before .before .before .before .post .result) (TableAndLog (a .records) _ (now (a .log)) _)) (λ i v. post-of (a .z) s i v) refl refl (c .before .before .before .before .before .before .before .value-of .ensures) (c .before .before .before .before .before .before .before .before .if1 .left) (c .before .before .before .before .post .ensures)
 
 pub post-spec : {M : Type 1} → statement M
 post-spec =

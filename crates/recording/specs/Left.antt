@@ -1,4 +1,4 @@
--- What a call leaves in what it is lent, by the outcome of its rule.
+-- What a call answers and leaves in what it is lent, by the outcome of its rule.
 use mathlib.Core.Path.{_≡_}
 use Prim.Native.Nat.{ℕ}
 use mathlib.Core.List.{List}
@@ -22,3 +22,7 @@ DraftsAndLog records drafts log after o = (drafts ≡ o .after .drafts) × LogIs
 -- the part that is shown: its bytes, and where they lie
 abbrev pub Shows : List ℕ → List ℕ → (ℕ × ℕ) → (ℕ × ℕ) → List ℕ → (ℕ × ℕ) → Outcome → Type 0
 Shows drafts table drafts-at table-at bytes at o = (bytes ≡ shown-bytes drafts table (o .shown)) × (at ≡ shown-at drafts-at table-at (o .shown))
+
+-- the answer, in whichever form it is handed over, and what else the call leaves
+abbrev pub Leaves : {A : Type 0} → (Outcome → A) → A → (Outcome → Type 0) → Outcome → Type 0
+Leaves answered r left o = (r ≡ answered o) × left o
