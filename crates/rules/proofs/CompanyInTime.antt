@@ -3,7 +3,7 @@
 use Prim.Native.Nat.{ℕ, suc, _≤_, _<_}
 use mathlib.Core.Path.{_≡_, refl, sym, _∙_, ap, ap₂}
 use mathlib.Core.Logic.{_↔_, _⊎_, inl, inr, ⊎-elim, Iff·trans}
-use mathlib.Core.Bool.{Bool, true, false, not, cond, _&&_, _||_, false≢true}
+use mathlib.Core.Bool.{Bool, true, false, not, cond, _&&_, false≢true}
 use mathlib.Core.List.{List, [], _∷_, List·Memᴰ, List·Memᴰ·tail}
 use lib.ListN.{length}
 use lib.Dec.{eqb, ltb}
@@ -11,39 +11,22 @@ use native.Mathlib.Nat.{le-refl}
 use native.Mathlib.Omega.{arith}
 use borrow.Author.Tests.{eqb-true, eq-eqb, ne-eqb, ltb-true, lt-ltb, not-true}
 use Rattle.basics.specs.Lists.{allIn, anyIn, member, distinct}
-use Rattle.basics.proofs.Bools.{split, clash, false-of-not, true-of-not, same-tests, and-left, and-right, and-both, and-swap, and-fails-left, and-fails-right, or-true, or-left, or-right, or-fails, or-false-right, cond-passes, cond-fails, equal-or-not}
+use Rattle.basics.proofs.Bools.{split, clash, false-of-not, true-of-not, same-tests, and-left, and-right, and-both, and-swap, and-fails-left, and-fails-right, or-true, or-left, or-right, or-false-right, cond-passes, cond-fails, equal-or-not}
 use Rattle.basics.proofs.Lists.{all-in-cong, any-in-at, any-in-fails, any-in-false}
 use Rattle.rules.specs.declared.Record.{Record}
 use Rattle.rules.specs.Sizes.{Size}
-use Rattle.rules.specs.Daylog.{kind-starts, kind-commits}
+use Rattle.rules.specs.Kinds.{kind-starts, kind-commits, kind-moves-moment, kind-sets-moment}
 use Rattle.rules.specs.Layout.{walks}
-use Rattle.rules.specs.Day.{Event, whose, event, events, latest, is-transaction, commit-of, committed, moves-moment, moment-of, company-of, sets-moment}
+use Rattle.rules.specs.Day.{Event, whose, event, events, latest, is-transaction, commit-of, committed, moment-of, company-of}
 use Rattle.rules.specs.Checker.{lists-company}
 use Rattle.rules.proofs.InTime.{has-stranger, no-stranger, in-company}
+use Rattle.rules.proofs.KindLaws.{sets-starts, sets-moves, sets-commits, sets-none}
 use Rattle.rules.proofs.Seats.{walks-earlier}
 use Rattle.rules.proofs.Day.{event-cases, number-bounds, whose-starts, who-bound, who-transaction}
 use Rattle.rules.proofs.Commits.{committed-by, committed-ends, commit-event, commit-of-event, latest-none, moment-at-most}
 use Rattle.rules.proofs.CompanyListed.{complete-says}
 
 -- ---- the moment
-
--- the kinds that set the moment
-module _ (k : ℕ) where
-  pub sets-starts : kind-starts k ≡ true → sets-moment k ≡ true
-  unfolding sets-moment
-  sets-starts e = or-left (kind-starts k) (moves-moment k || kind-commits k) e
-
-  pub sets-moves : moves-moment k ≡ true → sets-moment k ≡ true
-  unfolding sets-moment
-  sets-moves e = or-right (kind-starts k) (moves-moment k || kind-commits k) (or-left (moves-moment k) (kind-commits k) e)
-
-  pub sets-commits : kind-commits k ≡ true → sets-moment k ≡ true
-  unfolding sets-moment
-  sets-commits e = or-right (kind-starts k) (moves-moment k || kind-commits k) (or-right (moves-moment k) (kind-commits k) e)
-
-  sets-none : kind-starts k ≡ false → moves-moment k ≡ false → kind-commits k ≡ false → sets-moment k ≡ false
-  unfolding sets-moment
-  sets-none s m c = or-fails (kind-starts k) (moves-moment k || kind-commits k) s (or-fails (moves-moment k) (kind-commits k) m c)
 
 -- a transaction has no events before it starts
 pub none-yet : (test : Event → Bool) (earlier : List Record) (t : ℕ) → length earlier < t
@@ -59,27 +42,27 @@ uncommitted z r earlier w = false-of-not _ (λ c. committed-ends z r earlier (wh
 -- the moment after one more record
 pub moment-more : (z : Size) (t : ℕ) (r : Record) (earlier : List Record) → walks z (r ∷ earlier) ≡ true
     → moment-of (events (r ∷ earlier)) t
-    ≡ cond (eqb (whose earlier r) t && sets-moment (r .kind)) (suc (length earlier)) (moment-of (events earlier) t)
+    ≡ cond (eqb (whose earlier r) t && kind-sets-moment (r .kind)) (suc (length earlier)) (moment-of (events earlier) t)
 unfolding moment-of committed commit-of latest anyIn events event
 moment-more z t r earlier w = equal-or-not (whose earlier r) t mine (λ q. rw (ne-eqb (whose earlier r) t q))
   where
     mine : whose earlier r ≡ t → moment-of (events (r ∷ earlier)) t
-        ≡ cond (eqb (whose earlier r) t && sets-moment (r .kind)) (suc (length earlier)) (moment-of (events earlier) t)
+        ≡ cond (eqb (whose earlier r) t && kind-sets-moment (r .kind)) (suc (length earlier)) (moment-of (events earlier) t)
     mine q =
         let same = eq-eqb (whose earlier r) t q in
         let before : committed (events earlier) t ≡ false = ap (committed (events earlier)) (sym q) ∙ uncommitted z r earlier w in
         split (kind-commits (r .kind)) (λ c. rw (same, sets-commits (r .kind) c, c)) λ c.
-        split (moves-moment (r .kind)) (λ m. rw (same, sets-moves (r .kind) m, c, m, before, ne-eqb (suc (length earlier)) 0 (λ z. omega arith))) λ m.
+        split (kind-moves-moment (r .kind)) (λ m. rw (same, sets-moves (r .kind) m, c, m, before, ne-eqb (suc (length earlier)) 0 (λ z. omega arith))) λ m.
         split (kind-starts (r .kind))
         (λ s.
         let number = sym q ∙ whose-starts earlier r s in
-        rw (same, sets-starts (r .kind) s, c, m, before, latest-none _ (events earlier) (none-yet (λ e. moves-moment (e .kind)) earlier t (omega arith))) number)
+        rw (same, sets-starts (r .kind) s, c, m, before, latest-none _ (events earlier) (none-yet (λ e. kind-moves-moment (e .kind)) earlier t (omega arith))) number)
         (λ s. rw (same, sets-none (r .kind) s m c, c, m))
 
 module _ (t : ℕ) where
   -- a transaction of a day started with the newest record or before
   transaction-cases : (r : Record) (earlier : List Record) → is-transaction (events (r ∷ earlier)) t ≡ true
-      → (eqb (whose earlier r) t && sets-moment (r .kind) ≡ true) ⊎ (is-transaction (events earlier) t ≡ true)
+      → (eqb (whose earlier r) t && kind-sets-moment (r .kind) ≡ true) ⊎ (is-transaction (events earlier) t ≡ true)
   unfolding is-transaction anyIn events event
   transaction-cases r earlier i =
       let number = eqb (suc (length earlier)) t in
@@ -88,7 +71,7 @@ module _ (t : ℕ) where
       (λ p.
       let s = and-right number starts p in
       let mine = whose-starts earlier r s ∙ eqb-true (suc (length earlier)) t (and-left number starts p) in
-      inl (and-both (eqb (whose earlier r) t) (sets-moment (r .kind)) (eq-eqb (whose earlier r) t mine) (sets-starts (r .kind) s)))
+      inl (and-both (eqb (whose earlier r) t) (kind-sets-moment (r .kind)) (eq-eqb (whose earlier r) t mine) (sets-starts (r .kind) s)))
       inr (or-true (number && starts) (is-transaction (events earlier) t) i)
 
   -- its name is a number of the day
@@ -102,9 +85,9 @@ module _ (t : ℕ) where
 module _ (z : Size) (t : ℕ) where
   -- what holds with each record that sets the moment, and stays so past another, holds of the day
   pub record AtMoment (P : List Record → Type 0) : Type 0 where
-    pub on-set : (r : Record) (earlier : List Record) → walks z (r ∷ earlier) ≡ true → eqb (whose earlier r) t && sets-moment (r .kind) ≡ true
+    pub on-set : (r : Record) (earlier : List Record) → walks z (r ∷ earlier) ≡ true → eqb (whose earlier r) t && kind-sets-moment (r .kind) ≡ true
         → moment-of (events (r ∷ earlier)) t ≡ suc (length earlier) → P (r ∷ earlier)
-    pub on-other : (r : Record) (earlier : List Record) → walks z (r ∷ earlier) ≡ true → eqb (whose earlier r) t && sets-moment (r .kind) ≡ false
+    pub on-other : (r : Record) (earlier : List Record) → walks z (r ∷ earlier) ≡ true → eqb (whose earlier r) t && kind-sets-moment (r .kind) ≡ false
         → moment-of (events (r ∷ earlier)) t ≡ moment-of (events earlier) t → moment-of (events earlier) t ≤ length earlier
         → P earlier → P (r ∷ earlier)
 
@@ -112,7 +95,7 @@ module _ (z : Size) (t : ℕ) where
   unfolding is-transaction anyIn events
   at-moment P a [] w i = absurd (false≢true i)
   at-moment P a (r ∷ earlier) w i =
-      let sets = eqb (whose earlier r) t && sets-moment (r .kind) in
+      let sets = eqb (whose earlier r) t && kind-sets-moment (r .kind) in
       let moment = moment-more z t r earlier w in
       split sets (λ s. a .on-set r earlier w s (moment ∙ cond-passes _ _ s)) λ s.
       let started = ⊎-elim (λ e. absurd (clash e s)) (λ e. e) (transaction-cases t r earlier i) in
@@ -152,7 +135,7 @@ module _ (order : List ℕ) where
   none-before t (e ∷ earlier) h =
       let strange = kind-commits (e .kind) && not (member (e .who) order) in
       let older = or-false-right strange (has-stranger order earlier) h in
-      let sets = eqb (e .who) t && sets-moment (e .kind) in
+      let sets = eqb (e .who) t && kind-sets-moment (e .kind) in
       and-both (no-stranger t order earlier) (cond sets (not (has-stranger order earlier)) true) (none-before t earlier older)
       (split sets (λ s. rw (s, older)) (λ s. rw s))
 
@@ -169,7 +152,7 @@ module _ (order : List ℕ) where
     -- what is asked with one more record
     no-stranger-more : (r : Record) (earlier : List Record)
         → no-stranger t order (events (r ∷ earlier))
-        ≡ no-stranger t order (events earlier) && cond (eqb (whose earlier r) t && sets-moment (r .kind)) (not (has-stranger order (events earlier))) true
+        ≡ no-stranger t order (events earlier) && cond (eqb (whose earlier r) t && kind-sets-moment (r .kind)) (not (has-stranger order (events earlier))) true
     unfolding no-stranger events event
     no-stranger-more r earlier = refl
 
@@ -177,7 +160,7 @@ module _ (order : List ℕ) where
     abbrev NoneSays : List Record → Type 0
     NoneSays day = (no-stranger t order (events day) ≡ true) ↔ ListedBefore (moment-of (events day) t) order (events day)
 
-    none-set : (r : Record) (earlier : List Record) → eqb (whose earlier r) t && sets-moment (r .kind) ≡ true
+    none-set : (r : Record) (earlier : List Record) → eqb (whose earlier r) t && kind-sets-moment (r .kind) ≡ true
         → moment-of (events (r ∷ earlier)) t ≡ suc (length earlier) → NoneSays (r ∷ earlier)
     none-set r earlier s q =
         let older = no-stranger t order (events earlier) in

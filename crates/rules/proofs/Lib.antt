@@ -28,6 +28,7 @@ pub mod InTime
 pub mod InTurn
 pub mod Joined
 pub mod Judging
+pub mod KindLaws
 pub mod LaidOut
 pub mod LastWrites
 pub mod LegalInTurn

@@ -3,7 +3,7 @@
 use Prim.Native.Nat.{ℕ, suc, _<_}
 use mathlib.Core.Path.{_≡_, refl, sym, _∙_, ap, subst}
 use mathlib.Core.Logic.{⊎-elim, Iff·rfl}
-use mathlib.Core.Bool.{true, false, cond, _&&_, _||_, false≢true}
+use mathlib.Core.Bool.{true, false, cond, _&&_, false≢true}
 use mathlib.Core.List.{List, [], _∷_}
 use lib.ListN.{length}
 use lib.Dec.{ltb, leb, eqb}
@@ -20,7 +20,7 @@ use Rattle.rules.specs.Books.{Books, Shaped, place-at, wrote, freed, beg
 use Rattle.rules.specs.Handles.{place-of}
 use Rattle.rules.specs.Sound.{Sound}
 use Rattle.rules.specs.Cells.{draft-of}
-use Rattle.rules.specs.Daylog.{lowest-kind, highest-kind, begin-kind, judged-read-kind, own-read-kind, write-kind, commit-kind, give-up-kind, read-conflict-kind, commit-conflict-kind, post-kind, kind-starts, kind-frees, kind-has-cell, kind-has-value, no-value}
+use Rattle.rules.specs.Daylog.{lowest-kind, highest-kind, begin-kind, judged-read-kind, own-read-kind, write-kind, commit-kind, give-up-kind, read-conflict-kind, commit-conflict-kind, post-kind, kind-starts, kind-frees, kind-own-read, kind-table-read, kind-has-cell, kind-has-value, no-value}
 use Rattle.rules.specs.Layout.{seat, fits, fields-right, walks}
 use Rattle.rules.specs.Day.{events, committed}
 use Rattle.rules.specs.State.{Outcome, refused, recorded}
@@ -99,14 +99,14 @@ module _ (day : List Record) (r : Record) where
 
   -- the other kinds fit at a live one with its turn, if the cell is written or unwritten as they ask
   fits-caller : kind-starts (r .kind) ≡ false → LiveSeat (r .turn) (seat day (r .place))
-      → (eqb (r .kind) own-read-kind ≡ true → member (r .cell) (seat day (r .place) .written) ≡ true)
-      → (eqb (r .kind) judged-read-kind || eqb (r .kind) read-conflict-kind ≡ true → member (r .cell) (seat day (r .place) .written) ≡ false)
+      → (kind-own-read (r .kind) ≡ true → member (r .cell) (seat day (r .place) .written) ≡ true)
+      → (kind-table-read (r .kind) ≡ true → member (r .cell) (seat day (r .place) .written) ≡ false)
       → fits day r ≡ true
   unfolding fits
   fits-caller k live own unwritten =
       rw (k, live .0, eq-eqb _ _ (live .1))
-      (and-both _ _ (if-says (eqb (r .kind) own-read-kind) Iff·rfl .1 own)
-      (if-says (eqb (r .kind) judged-read-kind || eqb (r .kind) read-conflict-kind) (not-says _) .1 unwritten))
+      (and-both _ _ (if-says (kind-own-read (r .kind)) Iff·rfl .1 own)
+      (if-says (kind-table-read (r .kind)) (not-says _) .1 unwritten))
 
 -- ---- every call
 
@@ -149,8 +149,8 @@ module _ (z : Size) (l : Lending) (m : Machine) (w : Within z) (mirror : Mirrore
     wide = shaped-wide i (mirror .shape) (place-of-below h)
 
     -- a record that starts nothing, and what it asks of its cell
-    caller-fits : (kind c : ℕ) (value : List ℕ) → kind-starts kind ≡ false → (eqb kind own-read-kind ≡ true → (c < z .cells) × (wrote p c ≡ true))
-        → (eqb kind judged-read-kind || eqb kind read-conflict-kind ≡ true → (c < z .cells) × (wrote p c ≡ false))
+    caller-fits : (kind c : ℕ) (value : List ℕ) → kind-starts kind ≡ false → (kind-own-read kind ≡ true → (c < z .cells) × (wrote p c ≡ true))
+        → (kind-table-read kind ≡ true → (c < z .cells) × (wrote p c ≡ false))
         → fits day (record-at kind i p c value) ≡ true
     caller-fits kind c value k own unwritten =
         fits-caller day (record-at kind i p c value) k (here .status ∙ caller .live, held .turn)
@@ -167,7 +167,7 @@ module _ (z : Size) (l : Lending) (m : Machine) (w : Within z) (mirror : Mirrore
   pub mirrored-read : (h c : ℕ) (value : List ℕ) → ReadAsked z (length (m .state .table)) (length (m .state .drafts)) (l .log) (m .state .books) h c
       → wrote (place-at (m .state .books) (place-of h)) c ≡ false
       → Mirrored z (read-books z (m .state .books) (place-of h) c) (record-at judged-read-kind (place-of h) (place-at (m .state .books) (place-of h)) c value ∷ m .day)
-  unfolding read-books kind-starts kind-has-cell kind-has-value
+  unfolding read-books kind-starts kind-own-read kind-table-read kind-has-cell kind-has-value
   mirrored-read h c value asked unwritten =
       let caller = asked .caller in
       let i = place-of h in
@@ -182,7 +182,7 @@ module _ (z : Size) (l : Lending) (m : Machine) (w : Within z) (mirror : Mirrore
 
   pub mirrored-commit : (h : ℕ) → CommitAsked z (length (m .state .table)) (length (m .state .drafts)) (l .log) (m .state .books) h
       → Mirrored z (commit-books z (m .state .books) (place-of h)) (record-at commit-kind (place-of h) (place-at (m .state .books) (place-of h)) 0 no-value ∷ m .day)
-  unfolding commit-books kind-starts kind-has-cell kind-has-value same
+  unfolding commit-books kind-starts kind-own-read kind-table-read kind-has-cell kind-has-value same
   mirrored-commit h asked =
       let caller = asked .caller in
       let i = place-of h in
@@ -232,7 +232,7 @@ module _ (z : Size) (l : Lending) (m : Machine) (w : Within z) (mirror : Mirrore
   -- a write marks the cell at its caller's place
   keeps-write : (h c : ℕ) (value : List ℕ) → WriteAsked z (length value) (length (m .state .drafts)) (l .log) b h c
       → Keeps (write-of z (m .state) (place-of h) c value)
-  unfolding after-call moved-on write-of recorded kind-starts kind-has-cell kind-has-value
+  unfolding after-call moved-on write-of recorded kind-starts kind-own-read kind-table-read kind-has-cell kind-has-value
   keeps-write h c value asked =
       let caller = asked .caller in
       let i = place-of h in
@@ -247,7 +247,7 @@ module _ (z : Size) (l : Lending) (m : Machine) (w : Within z) (mirror : Mirrore
   -- an own read changes no place
   keeps-own-read : (h c : ℕ) → ReadAsked z (length (m .state .table)) (length (m .state .drafts)) (l .log) b h c
       → wrote (place-at b (place-of h)) c ≡ true → Keeps (own-read-of z (m .state) (place-of h) c)
-  unfolding after-call moved-on own-read-of recorded with-record kind-starts kind-has-cell kind-has-value
+  unfolding after-call moved-on own-read-of recorded with-record kind-starts kind-own-read kind-table-read kind-has-cell kind-has-value
   keeps-own-read h c asked own =
       let caller = asked .caller in
       let i = place-of h in
@@ -262,7 +262,7 @@ module _ (z : Size) (l : Lending) (m : Machine) (w : Within z) (mirror : Mirrore
 
   -- so does every outcome
   pub mirrored-each : EachOutcome z l (m .state) (λ c o. Mirrored z (after-call m o .state .books) (after-call m o .day))
-  unfolding after-call moved-on new-day refused open-rule granted-read-of show-of granted-commit-of turned-back give-up-of order-of close-of recorded kind-starts kind-frees kind-has-cell kind-has-value same
+  unfolding after-call moved-on new-day refused open-rule granted-read-of show-of granted-commit-of turned-back give-up-of order-of close-of recorded kind-starts kind-own-read kind-table-read kind-frees kind-has-cell kind-has-value same
   mirrored-each =
       record {
         on-refused = λ c n k j. mirror;
