@@ -6,6 +6,7 @@ ghost use Rattle.accept.specs.Listed.{Roomy};
 use libc::STDIN_FILENO;
 use libc::STDOUT_FILENO;
 use list::Numbers;
+use rules::numbers;
 use texts::buffer;
 
 // The number that an argument names; none for an argument that is missing or has more than 4,096 bytes.
@@ -44,10 +45,10 @@ fn decide() -> u8 {
     let begin = number_at(1, 4294967295);
     let numbers = order();
     if begin > 4294967295 {
-        return 1;
+        return numbers::LENT;
     }
     if !numbers.right {
-        return 1;
+        return numbers::LENT;
     }
     ask(begin as u32, numbers)
 }

@@ -13,9 +13,9 @@ use Rattle.basics.proofs.Bools.{split, and-fails-right}
 use Rattle.rules.specs.declared.Record.{Record}
 use Rattle.rules.specs.declared.Size.{Size}
 use Rattle.rules.specs.Sizes.{Within, width}
-use Rattle.rules.specs.Daylog.{kind-starts, kind-commits, kind-writes, kind-judged-read, kind-has-cell}
+use Rattle.rules.specs.Kinds.{kind-starts, kind-commits, kind-writes, kind-judged-read, kind-sets-moment, kind-has-cell}
 use Rattle.rules.specs.Layout.{Seat, seat, walks}
-use Rattle.rules.specs.Day.{whose, event, events, latest, commit-of, sets-moment, wrote-cell}
+use Rattle.rules.specs.Day.{whose, event, events, latest, commit-of, wrote-cell}
 use Rattle.rules.proofs.InTime.{read-cell, has-stranger}
 use Rattle.rules.proofs.Seats.{LiveSeat, walks-earlier, fits-live, seat-by}
 use Rattle.rules.proofs.Moments.{moment-more}
@@ -103,17 +103,14 @@ module _ (z : Size) (t : ℕ) (order : List ℕ) (within : Within z) (once : dis
 
   -- by place
   holders-more : (p : ℕ) → p < z .places → 1 ≤ seat (r ∷ day) p .status → getD (s′ .holder) p 0 ≡ seat (r ∷ day) p .begin
-  unfolding followed kind-starts
+  unfolding followed
   holders-more p h =
       seat-by r day p (λ (q : Seat). 1 ≤ q .status → getD (holder-after n r (s .holder)) p 0 ≡ q .begin)
       (λ other k. elsewhere other ∙ m .holders p h k) λ here.
       record {
-        on-begin = λ k l. starting here (ap kind-starts k);
-        on-post = λ k l. starting here (ap kind-starts k);
-        on-write = λ k l. going-on (ap kind-starts k) ∙ m .holders p h l;
-        on-commit = λ k l. going-on (ap kind-starts k) ∙ m .holders p h (live here (ap kind-starts k));
-        on-free = λ k l. absurd (omega arith);
-        on-quiet = λ q k l. going-on (q .0) ∙ m .holders p h l;
+        on-free = λ f l. absurd (omega arith);
+        on-start = λ k l. starting here k;
+        on-other = λ k f l. going-on k ∙ m .holders p h (live here k);
       }
     where
       elsewhere : (r .place ≡ p → ⊥) → getD (holder-after n r (s .holder)) p 0 ≡ getD (s .holder) p 0
@@ -219,7 +216,7 @@ module _ (z : Size) (t : ℕ) (order : List ℕ) (within : Within z) (once : dis
         writes = writes-more;
         reads = reads-more;
         tables = tables-more;
-        at-moment = ap (cond (eqb who t && sets-moment (r .kind)) n) (m .at-moment) ∙ sym (moment-more z t r day w);
+        at-moment = ap (cond (eqb who t && kind-sets-moment (r .kind)) n) (m .at-moment) ∙ sym (moment-more z t r day w);
         strangers = strangers-more;
         past = past-more;
         holder-length = length-set-if (kind-starts (r .kind)) (s .holder) (r .place) n ∙ m .holder-length;

@@ -15,7 +15,7 @@ use Rattle.basics.proofs.Elements.{getD-replicate-same}
 use Rattle.rules.specs.declared.Record.{Record}
 use Rattle.rules.specs.declared.Size.{Size}
 use Rattle.rules.specs.Sizes.{width}
-use Rattle.rules.specs.Daylog.{kind-starts, kind-commits, kind-writes}
+use Rattle.rules.specs.Kinds.{kind-starts, kind-commits, kind-writes}
 use Rattle.rules.specs.Layout.{seat, fields-right, walks, FieldsRight}
 use Rattle.rules.specs.Day.{Event, whose, events, latest, commit-of, committed, moment-of, wrote-cell}
 use Rattle.rules.proofs.InTime.{read-cell, has-stranger}

@@ -10,14 +10,15 @@ use lib.Dec.{ltb, eqb}
 use borrow.Author.Tests.{eqb-true, eq-eqb, ne-eqb}
 use Rattle.basics.specs.Below.{anyBelow}
 use Rattle.basics.specs.Lists.{anyIn}
-use Rattle.basics.proofs.Bools.{split, same-tests, and-left, and-right, and-both, and-fails-left, and-fails-right, or-true, or-left, or-right, or-fails}
+use Rattle.basics.proofs.Bools.{split, same-tests, and-left, and-right, and-both, and-fails-left, and-fails-right, or-true, or-left, or-right}
 use Rattle.basics.proofs.Below.{any-at, any-of, any-fails, any-cong}
 use Rattle.basics.proofs.Lists.{any-in-fails}
 use Rattle.rules.specs.declared.Record.{Record}
 use Rattle.rules.specs.declared.Size.{Size}
-use Rattle.rules.specs.Daylog.{begin-kind, judged-read-kind, commit-kind, post-kind, kind-starts, kind-commits, kind-writes, kind-judged-read, kind-has-value, kind-has-cell}
+use Rattle.rules.specs.Kinds.{kind-posts, kind-starts, kind-commits, kind-writes, kind-judged-read}
 use Rattle.rules.specs.Layout.{walks}
 use Rattle.rules.specs.Day.{Event, whose, event, events, committed, wrote-cell}
+use Rattle.rules.proofs.KindLaws.{posts-starts, posts-writes, posts-commits, posts-read-nothing, starts-commit-posts, commits-write-nothing, reads-start-nothing, reads-commit-nothing, writes-have-cell}
 use Rattle.rules.proofs.InTime.{read-cell, committed-cell, arises}
 use Rattle.rules.proofs.Day.{number-bounds, who-bound, whose-starts}
 use Rattle.listing.specs.Listed.{position}
@@ -81,39 +82,8 @@ exchange a b p m n =
 abbrev Does : ℕ → Bool → Bool → Bool → Type 0
 Does k starts reads commits = (kind-starts k ≡ starts) × (kind-judged-read k ≡ reads) × (kind-commits k ≡ commits)
 
-module _ (k : ℕ) where
-  begin-does : k ≡ begin-kind → Does k true false false
-  unfolding kind-starts kind-judged-read kind-commits
-  begin-does q = (ap kind-starts q, ap kind-judged-read q, ap kind-commits q)
-
-  read-does : k ≡ judged-read-kind → Does k false true false
-  unfolding kind-starts kind-judged-read kind-commits
-  read-does q = (ap kind-starts q, ap kind-judged-read q, ap kind-commits q)
-
-  commit-does : k ≡ commit-kind → Does k false false true
-  unfolding kind-starts kind-judged-read kind-commits
-  commit-does q = (ap kind-starts q, ap kind-judged-read q, ap kind-commits q)
-
-  post-does : k ≡ post-kind → Does k true false true
-  unfolding kind-starts kind-judged-read kind-commits
-  post-does q = (ap kind-starts q, ap kind-judged-read q, ap kind-commits q)
-
-  others-do : eqb k judged-read-kind ≡ false → eqb k begin-kind ≡ false → eqb k commit-kind ≡ false → eqb k post-kind ≡ false → Does k false false false
-  unfolding kind-starts kind-judged-read kind-commits
-  others-do a b c d = (or-fails (eqb k begin-kind) (eqb k post-kind) b d, a, or-fails (eqb k commit-kind) (eqb k post-kind) c d)
-
-  -- a commit writes nothing, a post does, and it and a judged read have a cell
-  commit-writes : k ≡ commit-kind → kind-writes k ≡ false
-  unfolding kind-writes
-  commit-writes q = ap kind-writes q
-
-  post-writes : k ≡ post-kind → kind-writes k ≡ true
-  unfolding kind-writes
-  post-writes q = ap kind-writes q
-
-  post-cell : k ≡ post-kind → kind-has-cell k ≡ true
-  unfolding kind-has-cell kind-has-value
-  post-cell q = ap kind-has-cell q
+posts-do : (k : ℕ) → kind-posts k ≡ true → Does k true false true
+posts-do k p = (posts-starts k p, posts-read-nothing k p, posts-commits k p)
 
 -- ---- what is kept, and what the day says
 
@@ -186,31 +156,31 @@ module _ (z : Size) (t : ℕ) (order : List ℕ) (day : List Record) (s : Kept) 
       any-in-fails (λ e. eqb (e .who) who && (kind-writes (e .kind) && eqb (e .cell) c)) es
       (λ e i. and-fails-left (eqb (e .who) who) _ (ne-eqb (e .who) who (λ q. omega (arith, who-bound day i, number-bounds day i, whose-starts day r k))))
 
-  wrote-commit : r .kind ≡ commit-kind → (c : ℕ) → wrote-cell (events (r ∷ day)) who c ≡ wrote-cell es who c
-  wrote-commit q c = rw (wrote-own c, commit-writes (r .kind) q)
+  wrote-before : kind-writes (r .kind) ≡ false → (c : ℕ) → wrote-cell (events (r ∷ day)) who c ≡ wrote-cell es who c
+  wrote-before n c = rw (wrote-own c, n)
 
-  wrote-post : r .kind ≡ post-kind → (c : ℕ) → wrote-cell (events (r ∷ day)) who c ≡ eqb (r .cell) c
-  wrote-post q c = rw (wrote-own c, post-writes (r .kind) q, wrote-none (post-does (r .kind) q .0) c) (or-false (eqb (r .cell) c))
+  wrote-post : kind-posts (r .kind) ≡ true → (c : ℕ) → wrote-cell (events (r ∷ day)) who c ≡ eqb (r .cell) c
+  wrote-post q c = rw (wrote-own c, posts-writes (r .kind) q, wrote-none (posts-starts (r .kind) q) c) (or-false (eqb (r .cell) c))
 
   -- a judged read, and a kind that neither starts, reads nor commits
-  pub read-arises : r .kind ≡ judged-read-kind → any-later (arises z es (event day r)) ≡ any-later (λ k. committed-cell es k (r .cell))
+  pub read-arises : kind-judged-read (r .kind) ≡ true → any-later (arises z es (event day r)) ≡ any-later (λ k. committed-cell es k (r .cell))
   read-arises q =
       later-cong (arises z es (event day r)) (λ k. committed-cell es k (r .cell))
-      (λ k. arises-as (read-does (r .kind) q) k ∙ or-false (committed-cell es k (r .cell)))
+      (λ k. arises-as (reads-start-nothing (r .kind) q, q, reads-commit-nothing (r .kind) q) k ∙ or-false (committed-cell es k (r .cell)))
 
   pub none-arises : Does (r .kind) false false false → any-later (arises z es (event day r)) ≡ false
   none-arises f =
       any-fails (λ i. ltb at i && arises z es (event day r) (getD order i 0)) (length order)
       (λ i h. ap (λ b. ltb at i && b) (arises-as f (getD order i 0)) ∙ and-fails-right (ltb at i) false refl)
 
-  -- a begin
-  begin-told : r .kind ≡ begin-kind → committed-later (s .commit) at (length order) ≡ any-later (arises z es (event day r))
+  -- one that starts and does not commit
+  begin-told : Does (r .kind) true false false → committed-later (s .commit) at (length order) ≡ any-later (arises z es (event day r))
   begin-told q =
       committed-later-told
-      ∙ sym (later-cong (arises z es (event day r)) (committed es) (λ k. arises-as (begin-does (r .kind) q) k ∙ or-false (committed es k)))
+      ∙ sym (later-cong (arises z es (event day r)) (committed es) (λ k. arises-as q k ∙ or-false (committed es k)))
 
-  -- a commit
-  commit-told : at < length order → r .kind ≡ commit-kind → any-used-later z (s .commit) (s .wrote) (s .read) at (length order) ≡ any-later (arises z es (event day r))
+  -- one that commits and does not start
+  commit-told : at < length order → Does (r .kind) false false true → any-used-later z (s .commit) (s .wrote) (s .read) at (length order) ≡ any-later (arises z es (event day r))
   unfolding any-used-later
   commit-told l q =
       any-cong (λ c. not (eqb (getD (s .wrote) (mark at c) 0) 0) && used-later (s .commit) (s .wrote) (s .read) c at (length order) true) (λ c. wrote-cell es who c && any-later (used c)) (z .cells)
@@ -218,35 +188,34 @@ module _ (z : Size) (t : ℕ) (order : List ℕ) (day : List Record) (s : Kept) 
       ∙ sym (exchange (ltb at) (wrote-cell es who) (λ i c. used c (getD order i 0)) (length order) (z .cells))
       ∙ sym
       (later-cong (arises z es (event day r)) (λ k. anyBelow (λ c. wrote-cell es who c && used c k) (z .cells)) (λ k.
-      arises-as (commit-does (r .kind) q) k
+      arises-as q k
       ∙ any-cong (λ c. wrote-cell (events (r ∷ day)) who c && used c k) (λ c. wrote-cell es who c && used c k) (z .cells)
-      (λ c h. ap (λ b. b && used c k) (wrote-commit q c))))
+      (λ c h. ap (λ b. b && used c k) (wrote-before (commits-write-nothing (r .kind) (q .0) (q .2)) c))))
 
-  -- a post
-  post-told : r .kind ≡ post-kind
+  -- one that does both
+  post-told : kind-posts (r .kind) ≡ true
       → committed-later (s .commit) at (length order) || used-later (s .commit) (s .wrote) (s .read) (r .cell) at (length order) true ≡ any-later (arises z es (event day r))
   post-told q =
       let c = r .cell in
-      let known = walks-fields z r day w .cell-known (post-cell (r .kind) q) in
+      let known = walks-fields z r day w .cell-known (writes-have-cell (r .kind) (posts-writes (r .kind) q)) in
       ap₂ _||_ committed-later-told (used-later-told c known)
       ∙ sym (any-or (λ i. ltb at i && committed es (getD order i 0)) (λ i. ltb at i && used c (getD order i 0)) (length order))
       ∙ any-cong _ (λ i. ltb at i && (committed es (getD order i 0) || used c (getD order i 0))) (length order)
       (λ i h. sym (and-or (ltb at i) (committed es (getD order i 0)) (used c (getD order i 0))))
       ∙ sym
       (later-cong (arises z es (event day r)) (λ k. committed es k || used c k) (λ k.
-      arises-as (post-does (r .kind) q) k
+      arises-as (posts-do (r .kind) q) k
       ∙ ap (λ b. committed es k || b)
       (any-cong (λ d. wrote-cell (events (r ∷ day)) who d && used d k) (λ d. eqb c d && used d k) (z .cells)
       (λ d h. ap (λ b. b && used d k) (wrote-post q d))
       ∙ any-only (λ d. used d k) (z .cells) c known)))
 
   -- any kind but a judged read
-  pub overtaken-told : at < length order → eqb (r .kind) judged-read-kind ≡ false
+  pub overtaken-told : at < length order → kind-judged-read (r .kind) ≡ false
       → overtaken z (s .commit) (s .wrote) (s .read) (r .kind) (r .cell) at (length order) ≡ any-later (arises z es (event day r))
   unfolding overtaken
   overtaken-told l n =
       let k = r .kind in
-      split (eqb k begin-kind) (λ e. rw e (begin-told (eqb-true k begin-kind e))) λ a.
-      split (eqb k commit-kind) (λ e. rw (a, e) (commit-told l (eqb-true k commit-kind e))) λ b.
-      split (eqb k post-kind) (λ e. rw (a, b, e) (post-told (eqb-true k post-kind e))) λ c.
-      rw (a, b, c) (sym (none-arises (others-do k n a b c)))
+      split (kind-posts k) (λ p. rw p (post-told p)) λ p.
+      split (kind-starts k) (λ a. rw (p, a) (begin-told (a, n, starts-commit-posts k a ∙ p))) λ a.
+      split (kind-commits k) (λ c. rw (p, a, c) (commit-told l (a, n, c))) (λ c. rw (p, a, c) (sym (none-arises (a, n, c))))

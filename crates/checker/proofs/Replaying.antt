@@ -7,7 +7,7 @@ use mathlib.Core.List.{List, _∷_}
 use native.Mathlib.Omega.{arith}
 use lib.ListN.{length, getD}
 use lib.Dec.{ltb, eqb}
-use borrow.Author.Tests.{eqb-true, ne-eqb, lt-ltb}
+use borrow.Author.Tests.{ne-eqb, lt-ltb}
 use Rattle.basics.specs.Below.{anyBelow}
 use Rattle.basics.specs.Lists.{allIn, member, distinct, keeps}
 use Rattle.basics.specs.Bytes.{same}
@@ -17,9 +17,11 @@ use Rattle.basics.proofs.Lists.{keeps-cong, keeps-nobody}
 use Rattle.rules.specs.declared.Record.{Record}
 use Rattle.rules.specs.declared.Size.{Size}
 use Rattle.rules.specs.Sizes.{Within, width}
-use Rattle.rules.specs.Daylog.{judged-read-kind, own-read-kind, kind-starts, kind-commits, kind-judged-read, kind-own-read, kind-has-value, kind-has-cell, decode, bytes-at, day-of}
+use Rattle.rules.specs.Kinds.{kind-judged-read, kind-own-read, kind-sets-moment}
+use Rattle.rules.specs.Daylog.{decode, bytes-at, day-of}
 use Rattle.rules.specs.Layout.{walks}
-use Rattle.rules.specs.Day.{Event, whose, event, events, sets-moment, written-value}
+use Rattle.rules.specs.Day.{Event, whose, event, events, written-value}
+use Rattle.rules.proofs.KindLaws.{own-reads-start-nothing, own-reads-no-judged, reads-no-own, own-reads-commit-nothing, reads-have-cell, own-reads-have-cell}
 use Rattle.rules.proofs.InTime.{arises, table-by, in-company, step-right}
 use Rattle.replay.specs.Kept.{Kept}
 use Rattle.listing.specs.Listed.{position, all-in-time}
@@ -33,15 +35,6 @@ use Rattle.checker.proofs.Overtaken.{written-later-told, read-arises, n
 
 -- ---- the fields of a record
 
--- both kinds of reads have a cell
-judged-read-cell : (k : ℕ) → k ≡ judged-read-kind → kind-has-cell k ≡ true
-unfolding kind-has-cell kind-has-value
-judged-read-cell k q = ap kind-has-cell q
-
-own-read-cell : (k : ℕ) → k ≡ own-read-kind → kind-has-cell k ≡ true
-unfolding kind-has-cell kind-has-value
-own-read-cell k q = ap kind-has-cell q
-
 module _ (z : Size) (r : Record) (day : List Record) (within : Within z) (w : walks z (r ∷ day) ≡ true) where
   -- the cell and the place are within the arrays
   pub cell-right : CellRight z r
@@ -49,8 +42,8 @@ module _ (z : Size) (r : Record) (day : List Record) (within : Within z) (w : wa
       let fields = walks-fields z r day w in
       record {
         within = cell-within z r day within w;
-        judged-read = λ q. fields .cell-known (judged-read-cell (r .kind) q);
-        own-read = λ q. fields .cell-known (own-read-cell (r .kind) q);
+        judged-read = λ q. fields .cell-known (reads-have-cell (r .kind) q);
+        own-read = λ q. fields .cell-known (own-reads-have-cell (r .kind) q);
       }
 
   pub place-within : r .place < width
@@ -62,15 +55,6 @@ module _ (z : Size) (r : Record) (day : List Record) (within : Within z) (w : wa
 not-and : (a b : Bool) → not (a && b) ≡ cond a (not b) true
 not-and true b = refl
 not-and false b = refl
-
--- a judged read is no own read
-judged-not-own : (k : ℕ) → k ≡ judged-read-kind → eqb k own-read-kind ≡ false
-judged-not-own k q = ap (λ n. eqb n own-read-kind) q
-
--- an own read starts nothing and commits nothing
-own-read-does : (k : ℕ) → k ≡ own-read-kind → (kind-starts k ≡ false) × (kind-judged-read k ≡ false) × (kind-commits k ≡ false)
-unfolding kind-starts kind-judged-read kind-commits
-own-read-does k q = (ap kind-starts q, ap kind-judged-read q, ap kind-commits q)
 
 module _ (z : Size) (t : ℕ) (order : List ℕ) (once : distinct order ≡ true) (opening log : List ℕ) (day : List Record) (s : Kept) (r : Record)
     (m : Mirrors z t order day s) (w : walks z (r ∷ day) ≡ true) (of-log : day ≡ day-of log (length day)) (next : r ≡ decode (bytes-at log (length day)))
@@ -101,34 +85,30 @@ module _ (z : Size) (t : ℕ) (order : List ℕ) (once : distinct order ≡ true
   value-here : value-at log (suc (length day)) ≡ r .value
   value-here = sym (ap (λ q. q .value) next ∙ value-of-bytes log (length day))
 
-  read-says : r .kind ≡ judged-read-kind → read-explained opening log s c (suc (length day)) at (length order) ≡ not overtakes && from-table
+  read-says : kind-judged-read (r .kind) ≡ true → read-explained opening log s c (suc (length day)) at (length order) ≡ not overtakes && from-table
   unfolding read-explained
   read-says q =
-      let known = walks-fields z r day w .cell-known (judged-read-cell (r .kind) q) in
+      let known = walks-fields z r day w .cell-known (reads-have-cell (r .kind) q) in
       ap₂ _&&_ (ap not (written-later-told z t order day s r m w c known ∙ sym (read-arises z t order day s r m w q)))
       (ap₂ same value-here (ap (λ n. source opening log n c) (m .tables c known) ∙ table-valued log opening order day c (valued log day of-log)))
 
-  own-says : r .kind ≡ own-read-kind → own-explained opening log (s .wrote) c (suc (length day)) at ≡ not overtakes && from-own
+  own-says : kind-own-read (r .kind) ≡ true → own-explained opening log (s .wrote) c (suc (length day)) at ≡ not overtakes && from-own
   unfolding own-explained
   own-says q =
-      let known = walks-fields z r day w .cell-known (own-read-cell (r .kind) q) in
+      let known = walks-fields z r day w .cell-known (own-reads-have-cell (r .kind) q) in
       let source-is = m .writes at c l known ∙ ap (λ k. latest-write es k c) (position-found order who l) in
       ap₂ same value-here
       (ap (λ n. source opening log n c) source-is ∙ write-valued log opening day who c (valued log day of-log) (own-read-wrote z r day w q))
-      ∙ ap (λ b. not b && from-own) (sym (none-arises z t order day s r m w (own-read-does (r .kind) q)))
+      ∙ ap (λ b. not b && from-own) (sym (none-arises z t order day s r m w (own-reads-start-nothing (r .kind) q, own-reads-no-judged (r .kind) q, own-reads-commit-nothing (r .kind) q)))
 
   -- all but the question who is a stranger
-  rest-says : cond (eqb (r .kind) judged-read-kind) (read-explained opening log s c (suc (length day)) at (length order))
-      (cond (eqb (r .kind) own-read-kind) (own-explained opening log (s .wrote) c (suc (length day)) at) (not (overtaken z (s .commit) (s .wrote) (s .read) (r .kind) c at (length order))))
+  rest-says : cond (kind-judged-read (r .kind)) (read-explained opening log s c (suc (length day)) at (length order))
+      (cond (kind-own-read (r .kind)) (own-explained opening log (s .wrote) c (suc (length day)) at) (not (overtaken z (s .commit) (s .wrote) (s .read) (r .kind) c at (length order))))
       ≡ not overtakes && (cond (kind-judged-read (r .kind)) from-table true && cond (kind-own-read (r .kind)) from-own true)
-  unfolding kind-judged-read kind-own-read
   rest-says =
       let k = r .kind in
-      split (eqb k judged-read-kind)
-      (λ e.
-      let q = eqb-true k judged-read-kind e in
-      rw (e, judged-not-own k q, and-true from-table) (read-says q)) λ a.
-      split (eqb k own-read-kind) (λ e. rw (a, e) (own-says (eqb-true k own-read-kind e))) λ b.
+      split (kind-judged-read k) (λ e. rw (e, reads-no-own k e, and-true from-table) (read-says e)) λ a.
+      split (kind-own-read k) (λ e. rw (a, e) (own-says e)) λ b.
       rw (a, b, and-true (not overtakes)) (ap not (overtaken-told z t order day s r m w l a))
 
   -- a record of a listed transaction is explained exactly if it breaks nothing
@@ -136,7 +116,7 @@ module _ (z : Size) (t : ℕ) (order : List ℕ) (once : distinct order ≡ true
   unfolding explained step-right event
   explained-says =
       let listed : member who order ≡ true = sym (position-member order who) ∙ lt-ltb at (length order) l in
-      let sets = eqb who t && sets-moment (r .kind) in
+      let sets = eqb who t && kind-sets-moment (r .kind) in
       rw (keeps-position who (arises z es (event day r)) order once, listed)
       (ap₂ _&&_ (not-and sets (s .stranger) ∙ ap (λ b. cond sets (not b) true) (m .strangers)) rest-says)
 

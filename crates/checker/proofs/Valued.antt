@@ -17,9 +17,11 @@ use Rattle.basics.proofs.Lists.{member-nil, member-cases}
 use Rattle.rules.specs.declared.Record.{Record}
 use Rattle.rules.specs.declared.Size.{Size}
 use Rattle.rules.specs.Sizes.{cell-bytes, record-bytes}
-use Rattle.rules.specs.Daylog.{own-read-kind, kind-starts, kind-commits, kind-writes, decode, bytes-at, day-of}
-use Rattle.rules.specs.Layout.{Seat, seat, walks}
+use Rattle.rules.specs.Kinds.{kind-commits, kind-writes, kind-own-read}
+use Rattle.rules.specs.Daylog.{decode, bytes-at, day-of}
+use Rattle.rules.specs.Layout.{Seat, begun-seat, used-seat, seat, walks}
 use Rattle.rules.specs.Day.{Event, whose, event, events, latest, wrote-cell, written-value}
+use Rattle.rules.proofs.KindLaws.{own-reads-start-nothing}
 use Rattle.rules.proofs.InTime.{table-by}
 use Rattle.rules.proofs.Seats.{walks-earlier, seat-by}
 use Rattle.rules.proofs.LivePlaces.{wrote-says}
@@ -114,24 +116,21 @@ module _ (c : ℕ) (r : Record) (day : List Record) (p : ℕ) where
       or-left (eqb (whose day r) k && (kind-writes (r .kind) && eqb (r .cell) c)) _
       (rw (eq-eqb (whose day r) k own, writes) (eq-eqb (r .cell) c q))
 
+  -- a seat that the record used: its cell is its own, the others were there
+  wrote-used : (q : Seat) → whose day r ≡ q .begin → (member c (q .written) ≡ true → wrote-cell (events (r ∷ day)) (q .begin) c ≡ true)
+      → SeatWrote (r ∷ day) (used-seat r q)
+  wrote-used q own known h =
+      split (kind-writes (r .kind))
+      (λ w. ⊎-elim (λ e. wrote-newest (q .begin) own w (sym e)) known (member-cases c (r .cell) (q .written) (rw w at h)))
+      (λ w. known (rw w at h))
+
   wrote-more : SeatWrote day (seat day p) → SeatWrote (r ∷ day) (seat (r ∷ day) p)
-  unfolding kind-starts kind-writes
   wrote-more known =
       seat-by r day p (SeatWrote (r ∷ day)) (λ other. wrote-older known) λ here.
       record {
-        on-begin = λ k h. absurd (clash h (member-nil c));
-        on-post = λ k h.
-            ⊎-elim (λ q. wrote-newest (suc (length day)) (whose-starts day r (ap kind-starts k)) (ap kind-writes k) (sym q))
-            (λ i. absurd (clash i (member-nil c))) (member-cases c (r .cell) [] h);
-        on-write = λ k h.
-            ⊎-elim
-            (λ q.
-            let own = whose-others day r (ap kind-starts k) ∙ ap (λ i. seat day i .begin) here in
-            wrote-newest (seat day p .begin) own (ap kind-writes k) (sym q))
-            (wrote-older known) (member-cases c (r .cell) (seat day p .written) h);
-        on-commit = λ k. wrote-older known;
-        on-free = λ k h. absurd (clash h (member-nil c));
-        on-quiet = λ q k. wrote-older known;
+        on-free = λ f h. absurd (clash h (member-nil c));
+        on-start = λ k. wrote-used (begun-seat (suc (length day)) r) (whose-starts day r k) (λ h. absurd (clash h (member-nil c)));
+        on-other = λ k f. wrote-used (seat day p) (whose-others day r k ∙ ap (λ i. seat day i .begin) here) (wrote-older known);
       }
 
 -- and so with a day
@@ -141,12 +140,11 @@ seat-wrote c [] p h = absurd (clash h (member-nil c))
 seat-wrote c (r ∷ day) p h = wrote-more c r day p (seat-wrote c day p) h
 
 -- an own read is of a cell that its transaction wrote
-pub own-read-wrote : (z : Size) (r : Record) (day : List Record) → walks z (r ∷ day) ≡ true → r .kind ≡ own-read-kind
+pub own-read-wrote : (z : Size) (r : Record) (day : List Record) → walks z (r ∷ day) ≡ true → kind-own-read (r .kind) ≡ true
     → wrote-cell (events day) (whose day r) (r .cell) ≡ true
-unfolding kind-starts
 own-read-wrote z r day w q =
     let v = walks-earlier z r day w in
-    let quiet = ap kind-starts q in
+    let quiet = own-reads-start-nothing (r .kind) q in
     let fits = fits-says z day r (v .0) .0 (v .1) in
     let live = fits .others-live quiet in
     ap (λ k. wrote-cell (events day) k (r .cell)) (whose-others day r quiet)

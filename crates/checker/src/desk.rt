@@ -6,6 +6,7 @@ ghost use Rattle.rules.specs.Sizes.{yard};
 ghost use Rattle.checker.specs.Desk.{pairs-of, checked-pairs};
 use crate::proposal;
 use parts::bytes;
+use rules::numbers;
 
 // The numbers of the first pairs of bytes, as many as the lent list has room for.
 fn unpack(pairs: &[u8], into: &mut [u16])
@@ -27,7 +28,7 @@ pub extern "C" fn nogturshan_check(opening: &[u8], log: &[u8], begin: u32, list:
     ensures { λ r. ⌜ r ≡ checked-pairs yard (now (opening .entry)) (now (log .entry)) begin (now (list .entry)) ⌝ }
 {
     if list.len() % 2 != 0 {
-        return 1;
+        return numbers::LENT;
     }
     let mut numbers = [0u16; 33];
     let all = list.len() / 2;

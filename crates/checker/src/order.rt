@@ -15,6 +15,7 @@ use listing::lists;
 use records::reader;
 use replay::state;
 use rules::Size;
+use rules::sizes;
 
 // One replay of a log's records: true exactly if the list, at most 32 without repeats and t among them, is accepted for transaction t.
 fn is_replayed(opening: &[u8], log: &[u8], records: u16, t: u16, list: &[u16], z: Size) -> bool
@@ -75,6 +76,6 @@ pub fn is_accepted(opening: &[u8], log: &[u8], t: u16, list: &[u16], z: Size) ->
     if lists::position(list, t) == list.len() {
         return false;
     }
-    let records = ((log.len() - 16) / 16) as u16;
+    let records = ((log.len() - sizes::RECORD_BYTES) / sizes::RECORD_BYTES) as u16;
     is_replayed(opening, log, records, t, list, z)
 }

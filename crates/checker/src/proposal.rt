@@ -6,25 +6,27 @@ use crate::order;
 use daylog::layout;
 use readback::entry;
 use rules::Size;
+use rules::numbers;
+use rules::sizes;
 
 // The answer for any number of places and cells.
 fn sized(opening: &[u8], log: &[u8], begin: u32, list: &[u16], z: Size) -> u8
     requires { ⌜ Within z ⌝ }
     ensures { λ r. ⌜ r ≡ checked z (now (opening .entry)) (now (log .entry)) begin (now (list .entry)) ⌝ }
 {
-    if opening.len() != 8 * z.cells {
-        return 1;
+    if opening.len() != sizes::CELL_BYTES * z.cells {
+        return numbers::LENT;
     }
     if !layout::is_right(log, z) {
-        return 10;
+        return numbers::BAD_LOG;
     }
     if !entry::is_start(log, begin) {
-        return 11;
+        return numbers::UNKNOWN;
     }
     if !order::is_accepted(opening, log, begin as u16, list, z) {
-        return 12;
+        return numbers::NO_ORDER;
     }
-    0
+    numbers::GRANTED
 }
 
 // 1 if the opening table has a wrong length, 10 if the log is badly laid out, 11 if the record is no begin or post, 12 if the list is not
@@ -32,14 +34,5 @@ fn sized(opening: &[u8], log: &[u8], begin: u32, list: &[u16], z: Size) -> u8
 pub fn checked(opening: &[u8], log: &[u8], begin: u32, list: &[u16]) -> u8
     ensures { λ r. ⌜ r ≡ checked yard (now (opening .entry)) (now (log .entry)) begin (now (list .entry)) ⌝ }
 {
-    sized(
-        opening,
-        log,
-        begin,
-        list,
-        Size {
-            places: 32,
-            cells: 32,
-        },
-    )
+    sized(opening, log, begin, list, sizes::yard_size())
 }

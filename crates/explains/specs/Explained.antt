@@ -1,7 +1,7 @@
 -- Whether a record of a listed transaction is explained by the list, told on what a replay keeps.
 use Prim.Native.Nat.{ℕ, _*_, _-_, _≤_, _<_}
 use mathlib.Core.Path.{_≡_}
-use mathlib.Core.Bool.{Bool, false, not, cond, _&&_}
+use mathlib.Core.Bool.{Bool, true, false, not, cond, _&&_}
 use mathlib.Core.List.{List}
 use lib.ListN.{getD}
 use lib.Dec.{eqb}
@@ -10,8 +10,7 @@ use Rattle.rules.specs.declared.Record.{Record}
 use Rattle.rules.specs.declared.Size.{Size}
 use Rattle.rules.specs.Sizes.{cell-bytes, record-bytes, width}
 use Rattle.rules.specs.Cells.{cell-of}
-use Rattle.rules.specs.Daylog.{judged-read-kind, own-read-kind}
-use Rattle.rules.specs.Day.{sets-moment}
+use Rattle.rules.specs.Kinds.{kind-judged-read, kind-own-read, kind-sets-moment}
 use Rattle.replay.specs.Kept.{Kept, mark}
 use Rattle.overtaking.specs.Later.{used-later, overtaken}
 
@@ -28,8 +27,8 @@ PastOnly n s = Past n (s .table) × Past n (s .wrote)
 -- a record's cell is within the arrays, and one of the table's where it is read
 pub record CellRight (z : Size) (r : Record) : Type 0 where
   pub within : r .cell < width
-  pub judged-read : r .kind ≡ judged-read-kind → r .cell < z .cells
-  pub own-read : r .kind ≡ own-read-kind → r .cell < z .cells
+  pub judged-read : kind-judged-read (r .kind) ≡ true → r .cell < z .cells
+  pub own-read : kind-own-read (r .kind) ≡ true → r .cell < z .cells
 
 -- ---- values
 
@@ -55,6 +54,6 @@ own-explained opening log wrote c n at = same (value-at log n) (source opening l
 -- record number n, r, of the transaction listed at a position
 unfoldable pub explained : Size → List ℕ → List ℕ → Kept → Record → ℕ → ℕ → ℕ → Bool → Bool
 explained z opening log s r n at count named =
-    not ((named && sets-moment (r .kind)) && s .stranger)
-    && cond (eqb (r .kind) judged-read-kind) (read-explained opening log s (r .cell) n at count)
-    (cond (eqb (r .kind) own-read-kind) (own-explained opening log (s .wrote) (r .cell) n at) (not (overtaken z (s .commit) (s .wrote) (s .read) (r .kind) (r .cell) at count)))
+    not ((named && kind-sets-moment (r .kind)) && s .stranger)
+    && cond (kind-judged-read (r .kind)) (read-explained opening log s (r .cell) n at count)
+    (cond (kind-own-read (r .kind)) (own-explained opening log (s .wrote) (r .cell) n at) (not (overtaken z (s .commit) (s .wrote) (s .read) (r .kind) (r .cell) at count)))

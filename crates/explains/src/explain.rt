@@ -7,10 +7,11 @@ ghost use Rattle.replay.specs.Kept.{kept-of};
 ghost use Rattle.explains.specs.Explained.{Past, PastOnly, CellRight, read-explained, own-explained, explained};
 use crate::values;
 use overtaking::later;
-use replay::state;
+use parts::kinds;
 use replay::state::Replay;
 use rules::Record;
 use rules::Size;
+use rules::sizes;
 
 // A judged read: nobody listed later has committed the cell, and the value is the table's.
 fn is_read_explained(
@@ -54,7 +55,7 @@ fn is_own_explained(
     requires { ⌜ (length (now opening) ≡ table-bytes z) × ((cell < z .cells) × (at < width)) ⌝ }
     ensures { λ r. ⌜ r ≡ own-explained (now (opening .entry)) (now (log .entry)) (now (wrote .entry)) cell n at ⌝ }
 {
-    let mark = 32 * at + cell;
+    let mark = sizes::WIDTH * at + cell;
     let source = wrote[mark];
     values::is_from(opening, log, n, source, cell)
 }
@@ -82,13 +83,13 @@ pub fn is_explained(
     ensures { λ r. ⌜ r ≡ explained z (now (opening .entry)) (now (log .entry)) (kept-of from (now (wrote .entry)) (now (read .entry))) entry n at count named ⌝ }
 {
     let cell = entry.cell as usize;
-    if (named & state::sets_moment(entry.kind)) & from.stranger {
+    if (named & kinds::sets_moment(entry.kind)) & from.stranger {
         return false;
     }
-    if entry.kind == 2 {
+    if kinds::is_judged_read(entry.kind) {
         return is_read_explained(from, wrote, read, opening, log, cell, n, at, count, z);
     }
-    if entry.kind == 3 {
+    if kinds::is_own_read(entry.kind) {
         return is_own_explained(wrote, opening, log, cell, n, at, z);
     }
     !later::is_overtaken(&from.commit, wrote, read, entry.kind, cell, at, count, z)

@@ -5,6 +5,7 @@ ghost use lib.ListN.{length};
 ghost use Rattle.basics.specs.Bytes.{same};
 ghost use Rattle.rules.specs.Sizes.{cell-bytes, record-bytes};
 ghost use Rattle.explains.specs.Explained.{value-at, source};
+use rules::sizes;
 
 // Eight bytes are the same as eight others.
 fn is_same(one: &[u8], other: &[u8]) -> bool
@@ -12,7 +13,7 @@ fn is_same(one: &[u8], other: &[u8]) -> bool
     ensures { λ r. ⌜ r ≡ same (now (one .entry)) (now (other .entry)) ⌝ }
 {
     let mut i = 0;
-    while i < 8 {
+    while i < sizes::CELL_BYTES {
         if one[i] != other[i] {
             return false;
         }
@@ -27,14 +28,14 @@ pub fn is_from(opening: &[u8], log: &[u8], n: u16, w: u16, cell: usize) -> bool
     requires { ⌜ cell-bytes * cell + cell-bytes ≤ length (now opening) ⌝ }
     ensures { λ r. ⌜ r ≡ same (value-at (now (log .entry)) n) (source (now (opening .entry)) (now (log .entry)) w cell) ⌝ }
 {
-    let end = 16 * n as usize;
-    let at = end - 8;
+    let end = sizes::RECORD_BYTES * n as usize;
+    let at = end - sizes::CELL_BYTES;
     if w == 0 {
-        let from = 8 * cell;
-        let to = from + 8;
+        let from = sizes::CELL_BYTES * cell;
+        let to = from + sizes::CELL_BYTES;
         return is_same(&log[at..end], &opening[from..to]);
     }
-    let to = 16 * w as usize;
-    let from = to - 8;
+    let to = sizes::RECORD_BYTES * w as usize;
+    let from = to - sizes::CELL_BYTES;
     is_same(&log[at..end], &log[from..to])
 }

@@ -3,7 +3,7 @@ use Prim.Native.Nat.{ℕ}
 use mathlib.Core.List.{List}
 use lib.ListN.{length}
 use Rattle.rules.specs.Calls as rule
-use Rattle.rules.specs.Daylog.{commit-total, day-of}
+use Rattle.rules.specs.Daylog.{commits-in}
 use Rattle.machine.specs.declared.books.Books.{Books}
 use Rattle.machine.specs.declared.call.Call.{Call}
 use Rattle.machine.specs.declared.call.Kind.{Kind}
@@ -27,4 +27,4 @@ call-of c value = call-as (c .kind) c value
 
 -- the lengths of the lent log and order buffer, and the commits and posts among the log's records
 abbrev pub lent-to : Books → List ℕ → List ℕ → rule.Lending
-lent-to b log buffer = record { log = length log; buffer = length buffer; total = commit-total (day-of log (b .records)) }
+lent-to b log buffer = record { log = length log; buffer = length buffer; total = commits-in log (b .records) }

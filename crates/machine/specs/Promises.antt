@@ -4,7 +4,7 @@ use Prim.Native.Nat.{ℕ}
 use mathlib.Core.List.{List, []}
 use lib.ListN.{length}
 use Rattle.rules.specs.Sizes.{yard}
-use Rattle.rules.specs.Daylog.{commit-total, day-of}
+use Rattle.rules.specs.Daylog.{commits-in}
 use Rattle.rules.specs.State.{Outcome, state-of}
 use Rattle.rules.specs.Steps.{begin-rule, write-rule, read-rule, show-rule, commit-rule, give-up-rule, post-rule, order-rule, close-rule}
 use Rattle.rules.specs.Calls.{issued}
@@ -43,7 +43,7 @@ order-outcome b handle numbers = order-rule yard (length numbers) (state-of (vie
 
 -- the commits and posts are counted among the records of the lent log
 abbrev pub close-outcome : Books → List ℕ → Outcome
-close-outcome b log = close-rule yard (length log) (commit-total (day-of log (b .records))) (state-of (view b) [] [])
+close-outcome b log = close-rule yard (length log) (commits-in log (b .records)) (state-of (view b) [] [])
 
 -- any call by value, on all that a call may be lent
 abbrev pub call-outcome : Books → Call → List ℕ → List ℕ → List ℕ → List ℕ → List ℕ → Outcome

@@ -7,7 +7,7 @@ use lib.ListN.{getD}
 use lib.Dec.{ltb, eqb}
 use Rattle.basics.specs.Below.{anyBelow}
 use Rattle.rules.specs.declared.Size.{Size}
-use Rattle.rules.specs.Daylog.{begin-kind, commit-kind, post-kind}
+use Rattle.rules.specs.Kinds.{kind-posts, kind-starts, kind-commits}
 use Rattle.replay.specs.Kept.{mark}
 
 -- somebody who has committed
@@ -31,6 +31,6 @@ any-used-later z commit wrote read at count =
 -- with a record of the kind, somebody who comes to stand before the one at the position
 unfoldable pub overtaken : Size → List ℕ → List ℕ → List Bool → ℕ → ℕ → ℕ → ℕ → Bool
 overtaken z commit wrote read kind c at count =
-    cond (eqb kind begin-kind) (committed-later commit at count)
-    (cond (eqb kind commit-kind) (any-used-later z commit wrote read at count)
-    (cond (eqb kind post-kind) (committed-later commit at count || used-later commit wrote read c at count true) false))
+    cond (kind-posts kind) (committed-later commit at count || used-later commit wrote read c at count true)
+    (cond (kind-starts kind) (committed-later commit at count)
+    (cond (kind-commits kind) (any-used-later z commit wrote read at count) false))

@@ -4,7 +4,9 @@ ghost use mathlib.Core.Path.{_≡_};
 ghost use Prim.Native.Nat.{_<_, _≤_};
 ghost use Rattle.rules.specs.Sizes.{Within, width};
 ghost use Rattle.overtaking.specs.Later.{committed-later, used-later, any-used-later, overtaken};
+use parts::kinds;
 use rules::Size;
+use rules::sizes;
 
 // Somebody listed later has committed.
 pub fn is_committed_later(commit: &[u16; 32], at: usize, count: usize) -> bool
@@ -36,7 +38,7 @@ pub fn is_used_later(
 {
     let mut i = 0;
     while i < count {
-        let mark = 32 * i + cell;
+        let mark = sizes::WIDTH * i + cell;
         let committed = (commit[i] != 0) & (wrote[mark] != 0);
         if (at < i) & (committed | (reads & read[mark])) {
             return true;
@@ -61,7 +63,7 @@ pub fn is_any_used_later(
 {
     let mut c = 0;
     while c < z.cells {
-        let mark = 32 * at + c;
+        let mark = sizes::WIDTH * at + c;
         if (wrote[mark] != 0) & is_used_later(commit, wrote, read, c, at, count, true) {
             return true;
         }
@@ -85,15 +87,15 @@ pub fn is_overtaken(
     requires { ⌜ (count ≤ width) × ((at < width) × (cell < width)) ⌝ }
     ensures { λ r. ⌜ r ≡ overtaken z (now (commit .entry)) (now (wrote .entry)) (now (read .entry)) kind cell at count ⌝ }
 {
-    if kind == 1 {
-        return is_committed_later(commit, at, count);
-    }
-    if kind == 5 {
-        return is_any_used_later(commit, wrote, read, at, count, z);
-    }
-    if kind == 9 {
+    if kinds::posts(kind) {
         return is_committed_later(commit, at, count)
             | is_used_later(commit, wrote, read, cell, at, count, true);
+    }
+    if kinds::starts(kind) {
+        return is_committed_later(commit, at, count);
+    }
+    if kinds::commits(kind) {
+        return is_any_used_later(commit, wrote, read, at, count, z);
     }
     false
 }

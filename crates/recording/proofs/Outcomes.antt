@@ -13,7 +13,7 @@ use Rattle.rules.specs.Books.{books-of, closed, of-places, no-place, begun, pos
 use Rattle.rules.specs.Handles.{handle-of}
 use Rattle.rules.specs.Judging.{has-cycle, given-order}
 use Rattle.rules.specs.Cells.{with-cell, draft-of, with-draft}
-use Rattle.rules.specs.Daylog.{begin-kind, own-read-kind, write-kind, give-up-kind, post-kind, no-value, commit-total, day-of}
+use Rattle.rules.specs.Daylog.{begin-kind, own-read-kind, write-kind, give-up-kind, post-kind, no-value, commits-in}
 use Rattle.rules.specs.State.{state-of, adds, closes, log-after, buffer-after, recorded, Outcome}
 use Rattle.rules.specs.Steps.{record-at, Judged, books-granted, granted-of, turned-back, meets-conflict, judged-of, begin-of, write-of, own-read-of, judged-read-of, read-of, give-up-of, post-of, order-of, close-of}
 use Rattle.rules.proofs.Judging.{cycle-by-places, order-by-places, order-length}
@@ -120,7 +120,7 @@ module _ (records : ℕ) (places : List Place) (z : Size) (i : ℕ) where
 
 -- close: the trailer is added, and every place is freed
 pub close-meets : (records : ℕ) (places : List Place) (z : Size) (log : List ℕ) {after : List ℕ} {total : ℕ} {freed-places : List Place}
-    → total ≡ commit-total (day-of log records) → after ≡ log-after records (closes records total) log → freed-places ≡ map freed places
-    → Meets records (close-of z (commit-total (day-of log records)) (state-of (books-of records places) [] [])) (record { number = 0; answer = 0; records = 0; places = freed-places }) log after
+    → total ≡ commits-in log records → after ≡ log-after records (closes records total) log → freed-places ≡ map freed places
+    → Meets records (close-of z (commits-in log records) (state-of (books-of records places) [] [])) (record { number = 0; answer = 0; records = 0; places = freed-places }) log after
 unfolding close-of closed
 close-meets records places z log total-is log-is freed-is = (rw freed-is, rw (log-is, total-is))

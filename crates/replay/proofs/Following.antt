@@ -7,13 +7,12 @@ use lib.ListN.{set}
 use borrow.Author.Tests.{lt-ltb, le-ltb}
 use Rattle.rules.specs.declared.Record.{Record}
 use Rattle.rules.specs.declared.Size.{Size}
-use Rattle.rules.specs.Daylog.{kind-commits, kind-writes, kind-judged-read}
-use Rattle.rules.specs.Day.{sets-moment}
+use Rattle.rules.specs.Kinds.{kind-commits, kind-writes, kind-judged-read, kind-sets-moment}
 use Rattle.replay.specs.declared.state.Replay.{Replay}
 use Rattle.replay.specs.Kept.{Kept, kept-of, mark, holder-after, laid, followed}
 
 module _ (z : Size) (n : ℕ) (r : Record) (at count : ℕ) (named : Bool) (s : Replay) (wrote : List ℕ) (read : List Bool) {holder : List ℕ} {moment : ℕ}
-    (h : holder ≡ holder-after n r (s .holder)) (t : moment ≡ cond (named && sets-moment (r .kind)) n (s .moment)) where
+    (h : holder ≡ holder-after n r (s .holder)) (t : moment ≡ cond (named && kind-sets-moment (r .kind)) n (s .moment)) where
   -- the struct with the holders and the moment as they are now
   abbrev now-kept : List ℕ → List ℕ → Bool → List ℕ → List Bool → Kept
   now-kept commit table stranger wrote′ read′ =

@@ -8,8 +8,7 @@ use Rattle.basics.specs.Below.{runBelow}
 use Rattle.rules.specs.declared.Record.{Record}
 use Rattle.rules.specs.declared.Size.{Size}
 use Rattle.rules.specs.Sizes.{width}
-use Rattle.rules.specs.Daylog.{kind-starts, kind-commits, kind-writes, kind-judged-read}
-use Rattle.rules.specs.Day.{sets-moment}
+use Rattle.rules.specs.Kinds.{kind-starts, kind-commits, kind-writes, kind-judged-read, kind-sets-moment}
 use Rattle.replay.specs.declared.state.Replay.{Replay}
 
 -- all that is kept: of the places, of the positions, of the positions and cells, of the cells, and of the log so far
@@ -77,6 +76,6 @@ followed z n r at count named s =
       wrote = wrote;
       read = cond (listed && kind-judged-read (r .kind)) (set (s .read) there true) (s .read);
       table = cond (listed && kind-commits (r .kind)) (laid z wrote at (s .table)) (s .table);
-      moment = cond (named && sets-moment (r .kind)) n (s .moment);
+      moment = cond (named && kind-sets-moment (r .kind)) n (s .moment);
       stranger = (kind-commits (r .kind) && not listed) || s .stranger;
     }

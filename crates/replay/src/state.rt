@@ -4,12 +4,12 @@ ghost use mathlib.Core.Bool.{true, false, cond, _&&_};
 ghost use Prim.Native.Nat.{_*_, _<_, _≤_};
 ghost use lib.ListN.{replicate, set};
 ghost use Rattle.rules.specs.Sizes.{Within, width};
-ghost use Rattle.rules.specs.Daylog.{kind-judged-read, kind-writes};
-ghost use Rattle.rules.specs.Day.{sets-moment};
+ghost use Rattle.rules.specs.Kinds.{kind-writes, kind-judged-read, kind-sets-moment};
 ghost use Rattle.replay.specs.Kept.{kept-of, fresh, whose-kept, holder-after, laid, followed};
 use parts::kinds;
 use rules::Record;
 use rules::Size;
+use rules::sizes;
 
 // By place: the transaction that holds it or held it last. By position in the list: its commit record, 0 for none. By cell: the record
 // that has the value last committed to it by a listed one, 0 for the opening value. And the moment of the named transaction so far, and
@@ -60,18 +60,11 @@ fn hold(holder: &mut [u16; 32], entry: Record, n: u16)
     }
 }
 
-// The kinds that set a transaction's moment: its start, a judged read that was granted, its commit.
-pub fn sets_moment(kind: u8) -> bool
-    ensures { λ r. ⌜ r ≡ sets-moment kind ⌝ }
-{
-    kinds::starts(kind) | ((kind == 2) | kinds::commits(kind))
-}
-
 // A record of the named transaction may set its moment.
 fn timed(moment: u16, kind: u8, n: u16, named: bool) -> u16
-    ensures { λ r. ⌜ r ≡ cond (named && sets-moment kind) n moment ⌝ }
+    ensures { λ r. ⌜ r ≡ cond (named && kind-sets-moment kind) n moment ⌝ }
 {
-    if named & sets_moment(kind) {
+    if named & kinds::sets_moment(kind) {
         return n;
     }
     moment
@@ -82,7 +75,7 @@ fn note_read(read: &mut [bool; 1024], kind: u8, mark: usize)
     requires { ⌜ mark < width * width ⌝ }
     ensures { λ _. ⌜ now (read .exit) ≡ cond (kind-judged-read kind) (set (now (read .entry)) mark true) (now (read .entry)) ⌝ }
 {
-    if kind == 2 {
+    if kinds::is_judged_read(kind) {
         read[mark] = true;
     }
 }
@@ -105,7 +98,7 @@ fn lay(table: &mut [u16; 32], wrote: &[u16; 1024], at: usize, z: Size)
 {
     let mut c = 0;
     while c < z.cells {
-        let mark = 32 * at + c;
+        let mark = sizes::WIDTH * at + c;
         if wrote[mark] != 0 {
             table[c] = wrote[mark];
         }
@@ -137,7 +130,7 @@ pub fn follow(
         next.stranger = kinds::commits(kind) | next.stranger;
         return next;
     }
-    let mark = 32 * at + entry.cell as usize;
+    let mark = sizes::WIDTH * at + entry.cell as usize;
     note_read(read, kind, mark);
     note_write(wrote, kind, mark, n);
     if kinds::commits(kind) {

@@ -9,7 +9,7 @@ use borrow.Author.Tests.{lt-ltb, le-ltb}
 use Rattle.rules.specs.declared.Size.{Size}
 use Rattle.rules.specs.Sizes.{table-bytes, most-records}
 use Rattle.rules.specs.Numbers.{lent, bad-log}
-use Rattle.rules.specs.Daylog.{records-in, day-of, commit-total}
+use Rattle.rules.specs.Daylog.{records-in, commits-in}
 use Rattle.rules.specs.Layout.{well-laid-out}
 use Rattle.rules.specs.Checker.{log-events}
 use Rattle.rules.specs.Report.{log-report, refused-line, report}
@@ -22,16 +22,16 @@ use Rattle.report.proofs.Telling.{first-short, all-short, first-is, all
 -- ---- the report of a well laid out log
 
 -- the pieces together
-whole : (log : List ℕ) → joined (first-told (records-in log) (commit-total (day-of log (records-in log))) ++ all-told log (records-in log)) ≡ log-report log
+whole : (log : List ℕ) → joined (first-told (records-in log) (commits-in log (records-in log)) ++ all-told log (records-in log)) ≡ log-report log
 unfolding log-report log-events
 whole log =
     let n = records-in log in
-    let total = commit-total (day-of log n) in
+    let total = commits-in log n in
     joined-append (first-told n total) (all-told log n) ∙ ap₂ _++_ (first-is n total) (all-are log n (omega arith))
 
 -- fit into a buffer with room for every report
 pub report-fits : (out log : List ℕ) {records total : ℕ} → report-room ≤ length out → records ≤ most-records → records ≡ records-in log
-    → total ≡ commit-total (day-of log records) → {then : List ℕ} {next : ℕ} → (then, next) ≡ placed out 0 (first-told records total)
+    → total ≡ commits-in log records → {then : List ℕ} {next : ℕ} → (then, next) ≡ placed out 0 (first-told records total)
     → {last : List ℕ} {end : ℕ} → (last, end) ≡ placed then next (all-told log records) → take end last ≡ log-report log
 report-fits out log {records} {total} room few e t first rest =
     let pieces = first-told records total ++ all-told log records in

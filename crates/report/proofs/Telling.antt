@@ -8,7 +8,8 @@ use native.Mathlib.Omega.{arith}
 use lib.ListN.{length, length-append}
 use Rattle.basics.specs.Text.{text}
 use Rattle.basics.proofs.Bools.{split}
-use Rattle.rules.specs.Daylog.{kind-starts, decode, bytes-at, records-in, day-of}
+use Rattle.rules.specs.Kinds.{kind-starts}
+use Rattle.rules.specs.Daylog.{decode, bytes-at, records-in, day-of}
 use Rattle.rules.specs.Day.{event, events, is-transaction, Standing, stands-live, stands-committed, stands-gaveup, stands-conflict, stands-post}
 use Rattle.rules.specs.Checker.{log-events}
 use Rattle.rules.specs.Report.{standing-word, first-line, transaction-line, transaction-lines}

@@ -11,6 +11,8 @@ use crate::lines;
 use daylog::layout;
 use records::reader;
 use rules::Size;
+use rules::numbers;
+use rules::sizes;
 use texts::refusal;
 
 // The report of a well laid out log, into the front of a buffer, and how many bytes it has.
@@ -18,7 +20,7 @@ fn of_right(out: &mut [u8], log: &[u8], z: Size) -> usize
     requires { ⌜ (report-room ≤ length (now out)) × (well-laid-out z (now log) ≡ true) ⌝ }
     ensures { λ r. ⌜ take r (now (out .exit)) ≡ log-report (now (log .entry)) ⌝ }
 {
-    let records = ((log.len() - 16) / 16) as u16;
+    let records = ((log.len() - sizes::RECORD_BYTES) / sizes::RECORD_BYTES) as u16;
     let total = reader::commits_among(log, records);
     let end = lines::first(out, records, total);
     lines::transactions(out, end, log, records, z)
@@ -30,7 +32,7 @@ fn of_log(out: &mut [u8], log: &[u8], z: Size) -> usize
     ensures { λ r. ⌜ take r (now (out .exit)) ≡ reported z (now (log .entry)) ⌝ }
 {
     if !layout::is_right(log, z) {
-        return refusal::refused(out, 10);
+        return refusal::refused(out, numbers::BAD_LOG);
     }
     of_right(out, log, z)
 }
@@ -40,15 +42,8 @@ pub fn report(input: &[u8], out: &mut [u8]) -> usize
     requires { ⌜ report-room ≤ length (now out) ⌝ }
     ensures { λ r. ⌜ take r (now (out .exit)) ≡ report yard (now (input .entry)) ⌝ }
 {
-    if input.len() < 256 {
-        return refusal::refused(out, 1);
+    if input.len() < sizes::TABLE_BYTES {
+        return refusal::refused(out, numbers::LENT);
     }
-    of_log(
-        out,
-        &input[256..],
-        Size {
-            places: 32,
-            cells: 32,
-        },
-    )
+    of_log(out, &input[sizes::TABLE_BYTES..], sizes::yard_size())
 }

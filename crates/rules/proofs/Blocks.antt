@@ -11,7 +11,7 @@ use Rattle.basics.proofs.Each.{each-cons}
 use Rattle.basics.proofs.Bools.{and-fails-left, equal-or-not, cond-fails}
 use Rattle.rules.specs.declared.Record.{Record}
 use Rattle.rules.specs.Sizes.{Size}
-use Rattle.rules.specs.Daylog.{kind-commits}
+use Rattle.rules.specs.Kinds.{kind-commits}
 use Rattle.rules.specs.Layout.{walks}
 use Rattle.rules.specs.Day.{Event, event, events, latest, commit-of, committed, wrote-cell, written-value}
 use Rattle.rules.specs.History.{EachEvent, subhist, only, last-write}

@@ -12,7 +12,7 @@ use Rattle.basics.proofs.Bools.{split, clash, and-left, and-right, and-both, co
 use Rattle.rules.specs.declared.Record.{Record}
 use Rattle.rules.specs.Sizes.{Size}
 use Rattle.rules.specs.Cells.{cell-of}
-use Rattle.rules.specs.Daylog.{kind-commits}
+use Rattle.rules.specs.Kinds.{kind-commits}
 use Rattle.rules.specs.Layout.{walks}
 use Rattle.rules.specs.Day.{Event, event, events, commit-of, committed, wrote-cell, written-value}
 use Rattle.rules.proofs.Seats.{walks-earlier}

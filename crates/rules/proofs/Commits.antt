@@ -12,13 +12,12 @@ use borrow.Author.Tests.{eqb-true, eq-eqb}
 use Rattle.basics.specs.Lists.{anyIn}
 use Rattle.basics.proofs.Bools.{split, and-left, and-right, and-both, false-of-not, true-of-not, or-false-left, or-false-right, equal-or-not}
 use Rattle.basics.proofs.Lists.{any-in-of, same-end}
-use Rattle.basics.proofs.Says.{eqb-says, or-says}
 use Rattle.rules.specs.declared.Record.{Record}
 use Rattle.rules.specs.Sizes.{Size}
-use Rattle.rules.specs.Daylog.{commit-kind, post-kind, kind-starts, kind-commits}
+use Rattle.rules.specs.Kinds.{kind-starts, kind-commits, kind-moves-moment}
 use Rattle.rules.specs.Layout.{seat, fits, walks, Held}
-use Rattle.rules.specs.Day.{Event, whose, event, events, latest, is-transaction, commit-of, committed, moves-moment, moment-of}
-use Rattle.rules.proofs.Seats.{walks-earlier, seat-by, moved-post, moved-commit, seat-here, seat-other, fits-live, held-of-seat, seat-of-held}
+use Rattle.rules.specs.Day.{Event, whose, event, events, latest, is-transaction, commit-of, committed, moment-of}
+use Rattle.rules.proofs.Seats.{walks-earlier, used-live, seat-by, moved-commits, seat-here, seat-other, fits-live, held-of-seat, seat-of-held}
 use Rattle.rules.proofs.Day.{event-cases, number-bounds, begin-bound, whose-starts, whose-others, who-bound, who-transaction}
 
 -- ---- held places
@@ -43,31 +42,14 @@ begins-differ z earlier w p q hp hq e =
 abbrev pub Sealed : ℕ → List Record → Type 0
 Sealed t earlier = (p : ℕ) → seat earlier p .status ≡ 1 → seat earlier p .begin ≡ t → ⊥
 
--- the kinds that commit
-commits-say : (k : ℕ) → (kind-commits k ≡ true) ↔ ((k ≡ commit-kind) ⊎ (k ≡ post-kind))
-unfolding kind-commits
-commits-say k = or-says (eqb-says k commit-kind) (eqb-says k post-kind)
-
--- a post starts its transaction, and a commit none
-post-starts : (k : ℕ) → k ≡ post-kind → kind-starts k ≡ true
-unfolding kind-starts
-post-starts k e = ap kind-starts e
-
-commit-starts-nothing : (k : ℕ) → k ≡ commit-kind → kind-starts k ≡ false
-unfolding kind-starts
-commit-starts-nothing k e = ap kind-starts e
-
 -- what no place is live with stays so, past any record
 pub sealed-more : (t : ℕ) (r : Record) (earlier : List Record) → t ≤ length earlier → Sealed t earlier → Sealed t (r ∷ earlier)
 sealed-more t r earlier h known p =
     seat-by r earlier p (λ s. s .status ≡ 1 → s .begin ≡ t → ⊥) (λ other. known p) λ here.
     record {
-      on-begin = λ k live begun. omega arith;
-      on-post = λ k live begun. omega arith;
-      on-write = λ k. known p;
-      on-commit = λ k live begun. omega arith;
-      on-free = λ k live begun. omega arith;
-      on-quiet = λ q w. known p;
+      on-free = λ f live begun. omega arith;
+      on-start = λ k live begun. omega arith;
+      on-other = λ k f live. known p (used-live r (seat earlier p) live .1);
     }
 
 module _ (z : Size) where
@@ -75,29 +57,24 @@ module _ (z : Size) where
   sealed-here : (r : Record) (earlier : List Record) → walks z (r ∷ earlier) ≡ true → kind-commits (r .kind) ≡ true
       → Sealed (whose earlier r) (r ∷ earlier)
   sealed-here r earlier w c p live begun =
-      equal-or-not (r .place) p at-place
-      (λ other. ⊎-elim (committed-elsewhere other) (posted-elsewhere other) (commits-say (r .kind) .0 c))
+      equal-or-not (r .place) p at-place (λ other. split (kind-starts (r .kind)) (started-elsewhere other) (committed-elsewhere other))
     where
       at-place : r .place ≡ p → ⊥
       at-place here =
-          let n = suc (length earlier) in
-          let s = seat earlier p in
-          let q = seat-here r earlier p here in
-          ⊎-elim (λ k. let l = rw (q ∙ moved-commit n r s k) at live in omega arith)
-          (λ k. let l = rw (q ∙ moved-post n r s k) at live in omega arith) (commits-say (r .kind) .0 c)
+          let seated = ap (λ s. s .status) (seat-here r earlier p here) in
+          omega (arith, moved-commits (suc (length earlier)) r (seat earlier p) c)
 
-      posted-elsewhere : (r .place ≡ p → ⊥) → r .kind ≡ post-kind → ⊥
-      posted-elsewhere other k =
-          omega (arith, rw (seat-other r earlier p other) at begun, whose-starts earlier r (post-starts (r .kind) k), begin-bound earlier p)
+      started-elsewhere : (r .place ≡ p → ⊥) → kind-starts (r .kind) ≡ true → ⊥
+      started-elsewhere other k =
+          omega (arith, rw (seat-other r earlier p other) at begun, whose-starts earlier r k, begin-bound earlier p)
 
-      committed-elsewhere : (r .place ≡ p → ⊥) → r .kind ≡ commit-kind → ⊥
+      committed-elsewhere : (r .place ≡ p → ⊥) → kind-starts (r .kind) ≡ false → ⊥
       committed-elsewhere other k =
           let v = walks-earlier z r earlier w in
-          let quiet = commit-starts-nothing (r .kind) k in
-          let there = fits-live earlier r quiet (v .1) in
+          let there = fits-live earlier r k (v .1) in
           let here : seat earlier p .status ≡ 1 = rw (seat-other r earlier p other) at live in
           let whose-it-is : seat earlier p .begin ≡ whose earlier r = rw (seat-other r earlier p other) at begun in
-          other (sym (begins-differ z earlier (v .0) p (r .place) (omega arith) (omega arith) (whose-it-is ∙ whose-others earlier r quiet)))
+          other (sym (begins-differ z earlier (v .0) p (r .place) (omega arith) (omega arith) (whose-it-is ∙ whose-others earlier r k)))
 
   -- and that stays so
   sealed-after : (day : List Record) {e : Event} → walks z day ≡ true → List·Memᴰ e (events day) → kind-commits (e .kind) ≡ true → Sealed (e .who) day
@@ -177,7 +154,7 @@ module _ (day : List Record) (t : ℕ) where
   commits-it e = eqb (e .who) t && kind-commits (e .kind)
 
   abbrev reads-it : Event → Bool
-  reads-it e = eqb (e .who) t && moves-moment (e .kind)
+  reads-it e = eqb (e .who) t && kind-moves-moment (e .kind)
 
   -- the commit record is a number of the day
   pub commit-at-most : commit-of (events day) t ≤ length day

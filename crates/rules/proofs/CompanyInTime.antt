@@ -15,9 +15,9 @@ use Rattle.basics.proofs.Bools.{split, clash, true-of-not, same-tests, and-left
 use Rattle.basics.proofs.Lists.{all-in-cong, any-in-fails, any-in-false}
 use Rattle.rules.specs.declared.Record.{Record}
 use Rattle.rules.specs.Sizes.{Size}
-use Rattle.rules.specs.Daylog.{kind-starts, kind-commits}
+use Rattle.rules.specs.Kinds.{kind-starts, kind-commits, kind-moves-moment, kind-sets-moment}
 use Rattle.rules.specs.Layout.{walks}
-use Rattle.rules.specs.Day.{Event, whose, event, events, is-transaction, moment-of, company-of, sets-moment}
+use Rattle.rules.specs.Day.{Event, whose, event, events, is-transaction, moment-of, company-of}
 use Rattle.rules.specs.Checker.{lists-company}
 use Rattle.rules.proofs.InTime.{has-stranger, no-stranger, in-company}
 use Rattle.rules.proofs.Day.{event-cases, number-bounds}
@@ -58,7 +58,7 @@ module _ (order : List ℕ) where
   none-before t (e ∷ earlier) h =
       let strange = kind-commits (e .kind) && not (member (e .who) order) in
       let older = or-false-right strange (has-stranger order earlier) h in
-      let sets = eqb (e .who) t && sets-moment (e .kind) in
+      let sets = eqb (e .who) t && kind-sets-moment (e .kind) in
       and-both (no-stranger t order earlier) (cond sets (not (has-stranger order earlier)) true) (none-before t earlier older)
       (split sets (λ s. rw (s, older)) (λ s. rw s))
 
@@ -75,7 +75,7 @@ module _ (order : List ℕ) where
     -- what is asked with one more record
     no-stranger-more : (r : Record) (earlier : List Record)
         → no-stranger t order (events (r ∷ earlier))
-        ≡ no-stranger t order (events earlier) && cond (eqb (whose earlier r) t && sets-moment (r .kind)) (not (has-stranger order (events earlier))) true
+        ≡ no-stranger t order (events earlier) && cond (eqb (whose earlier r) t && kind-sets-moment (r .kind)) (not (has-stranger order (events earlier))) true
     unfolding no-stranger events event
     no-stranger-more r earlier = refl
 
@@ -83,7 +83,7 @@ module _ (order : List ℕ) where
     abbrev NoneSays : List Record → Type 0
     NoneSays day = (no-stranger t order (events day) ≡ true) ↔ ListedBefore (moment-of (events day) t) order (events day)
 
-    none-set : (r : Record) (earlier : List Record) → eqb (whose earlier r) t && sets-moment (r .kind) ≡ true
+    none-set : (r : Record) (earlier : List Record) → eqb (whose earlier r) t && kind-sets-moment (r .kind) ≡ true
         → moment-of (events (r ∷ earlier)) t ≡ suc (length earlier) → NoneSays (r ∷ earlier)
     none-set r earlier s q =
         let older = no-stranger t order (events earlier) in

@@ -10,7 +10,7 @@ use Rattle.basics.proofs.Bools.{and-right, and-both}
 use Rattle.basics.proofs.Lists.{all-in-at, all-in-of, member-at, member-of}
 use Rattle.basics.proofs.Says.{eqb-says, ltb-says, and-says, or-says, if-says}
 use Rattle.rules.specs.declared.Record.{Record}
-use Rattle.rules.specs.Daylog.{kind-starts}
+use Rattle.rules.specs.Kinds.{kind-starts}
 use Rattle.rules.specs.Day.{Event, events, is-transaction, commit-of, committed, moment-of, company-of}
 use Rattle.rules.specs.Checker.{lists-company}
 use Rattle.rules.proofs.InTime.{in-company}

@@ -16,9 +16,9 @@ use Rattle.basics.proofs.Bools.{split, clash, false-of-not, and-left, and-right
 use Rattle.basics.proofs.Walk.{first-step, map-cycle, cycle-followed}
 use Rattle.rules.specs.declared.Record.{Record}
 use Rattle.rules.specs.Sizes.{Size}
-use Rattle.rules.specs.Daylog.{begin-kind, commit-kind, post-kind, kind-starts, kind-commits, kind-judged-read, kind-judged}
+use Rattle.rules.specs.Kinds.{begin-kind, commit-kind, post-kind, kind-starts, kind-commits, kind-judged-read, kind-judged, kind-sets-moment}
 use Rattle.rules.specs.Layout.{walks}
-use Rattle.rules.specs.Day.{Event, whose, event, events, is-transaction, commit-of, committed, sets-moment, moment-of, wrote-cell, company-of, day-real-time, day-write-write, day-write-read, day-read-write, day-before}
+use Rattle.rules.specs.Day.{Event, whose, event, events, is-transaction, commit-of, committed, moment-of, wrote-cell, company-of, day-real-time, day-write-write, day-write-read, day-read-write, day-before}
 use Rattle.rules.specs.Runs.{DayPair}
 use Rattle.rules.proofs.InTime.{arises}
 use Rattle.rules.proofs.Seats.{walks-earlier}
@@ -26,7 +26,8 @@ use Rattle.rules.proofs.Day.{event-in, whose-starts, who-transaction}
 use Rattle.rules.proofs.Commits.{commit-at-most, committed-cases, committed-begun, committed-ends}
 use Rattle.rules.proofs.Settled.{settled, committed-then}
 use Rattle.rules.proofs.CompanyListed.{company-says}
-use Rattle.rules.proofs.Moments.{sets-commits, sets-nothing, begun-earlier, none-yet, moment-more, moment-counted}
+use Rattle.rules.proofs.KindLaws.{sets-commits, sets-nothing}
+use Rattle.rules.proofs.Moments.{begun-earlier, none-yet, moment-more, moment-counted}
 use Rattle.rules.proofs.PairsArise.{begun-before, one-more}
 use Rattle.rules.proofs.PairsInTime.{newest}
 use Rattle.rules.proofs.Explaining.{before-differs}
@@ -49,8 +50,8 @@ explained-new z = record { each = λ t i. absurd (false≢true i); all = λ c. f
 
 module _ (k : ℕ) where
   -- a kind that sets the moment and starts nothing is a judged kind
-  sets-judged : sets-moment k ≡ true → kind-starts k ≡ false → kind-judged k ≡ true
-  unfolding sets-moment kind-starts kind-commits kind-judged
+  sets-judged : kind-sets-moment k ≡ true → kind-starts k ≡ false → kind-judged k ≡ true
+  unfolding kind-sets-moment kind-starts kind-commits kind-judged
   sets-judged e s =
       let reads = kind-judged-read k in
       let post = eqb k post-kind in
@@ -78,7 +79,7 @@ nobody-behind z day k m h =
 -- ---- one record more
 
 -- with a record that sets no moment no pair arises
-arises-nothing : (z : Size) (r : Record) (day : List Record) (k : ℕ) → sets-moment (r .kind) ≡ false → arises z (events day) (event day r) k ≡ false
+arises-nothing : (z : Size) (r : Record) (day : List Record) (k : ℕ) → kind-sets-moment (r .kind) ≡ false → arises z (events day) (event day r) k ≡ false
 unfolding arises event
 arises-nothing z r day k e = let n = sets-nothing (r .kind) .0 e in rw (n .0, n .1, n .2)
 
@@ -121,7 +122,7 @@ module _ (z : Size) (r : Record) (day : List Record) (w : walks z (r ∷ day) �
 
   -- ---- a record that sets no moment of t
 
-  module _ (t : ℕ) (still : eqb u t && sets-moment (r .kind) ≡ false) (i : is-transaction more t ≡ true) where
+  module _ (t : ℕ) (still : eqb u t && kind-sets-moment (r .kind) ≡ false) (i : is-transaction more t ≡ true) where
     -- t had begun, and its moment is as before
     begun-before-it : is-transaction es t ≡ true
     begun-before-it = begun-earlier r day t i still
@@ -153,7 +154,7 @@ module _ (z : Size) (r : Record) (day : List Record) (w : walks z (r ∷ day) �
         let here = company-still m (s .1) in
         let none : u ≡ m → arises z es (event day r) k ≡ false =
         λ q.
-        ⊎-elim (λ o. arises-nothing z r day k (false-of-not _ (λ e. clash (and-both (eqb u t) (sets-moment (r .kind)) (eq-eqb u t (q ∙ o)) e) still)))
+        ⊎-elim (λ o. arises-nothing z r day k (false-of-not _ (λ e. clash (and-both (eqb u t) (kind-sets-moment (r .kind)) (eq-eqb u t (q ∙ o)) e) still)))
         (λ a. absurd (committed-ends z r day m w (a .0) q)) (company-cases-before m (s .1)) in
         (company-still k (s .0), here, pair-before k m (company-says es t m .0 here .0) none (s .2))
 
@@ -186,7 +187,7 @@ module _ (z : Size) (r : Record) (day : List Record) (w : walks z (r ∷ day) �
   company-all : kind-commits (r .kind) ≡ true → (k : ℕ) → committed more k ≡ true → company-of more u k ≡ true
   company-all c k h =
       let moment : moment-of more u ≡ suc (length day) =
-      moment-more z u r day w ∙ cond-passes _ _ (and-both (eqb u u) (sets-moment (r .kind)) (eq-eqb u u refl) (sets-commits (r .kind) c)) in
+      moment-more z u r day w ∙ cond-passes _ _ (and-both (eqb u u) (kind-sets-moment (r .kind)) (eq-eqb u u refl) (sets-commits (r .kind) c)) in
       company-says more u k .1 (
         committed-begun z (r ∷ day) w k h,
         ⊎-elim (λ q. inl (sym (q .0))) (λ was. inr (h, omega (arith, commit-at-most day k, moment, commit-still k was))) (committed-cases r day k h),
@@ -198,7 +199,7 @@ module _ (z : Size) (r : Record) (day : List Record) (w : walks z (r ∷ day) �
     -- the record sets the moment of its own transaction, as a start or as judged, or all is as before
     each-more : (t : ℕ) → is-transaction more t ≡ true → Cycle (DayPair z more t) → ⊥
     each-more t i c =
-        let sets = sets-moment (r .kind) in
+        let sets = kind-sets-moment (r .kind) in
         split (eqb u t && sets)
         (λ e.
         let own : Cycle (DayPair z more u) = subst (λ (x : ℕ). Cycle (DayPair z more x)) (sym (eqb-true u t (and-left (eqb u t) sets e))) c in

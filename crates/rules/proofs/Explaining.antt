@@ -21,9 +21,9 @@ use Rattle.basics.proofs.Walk.{map-cycle}
 use Rattle.basics.proofs.Eliminated.{eliminated-members, eliminated-distinct, eliminated-keeps, eliminated-exactly, keeps-no-cycle}
 use Rattle.rules.specs.declared.Record.{Record}
 use Rattle.rules.specs.Sizes.{Size}
-use Rattle.rules.specs.Daylog.{kind-commits, kind-judged-read}
+use Rattle.rules.specs.Kinds.{kind-commits, kind-judged-read, kind-sets-moment}
 use Rattle.rules.specs.Layout.{walks}
-use Rattle.rules.specs.Day.{Event, whose, event, events, is-transaction, moment-of, sets-moment, company-of, day-before}
+use Rattle.rules.specs.Day.{Event, whose, event, events, is-transaction, moment-of, company-of, day-before}
 use Rattle.rules.specs.Checker.{lists-company, reads-carried, accepted}
 use Rattle.rules.specs.Runs.{DayPair}
 use Rattle.rules.specs.History.{last-write, Legal}
@@ -32,8 +32,9 @@ use Rattle.rules.proofs.Day.{event-cases, event-later, number-bounds}
 use Rattle.rules.proofs.Settled.{event-there, each-event, commit-last}
 use Rattle.rules.proofs.CompanyListed.{company-says, company-listed}
 use Rattle.rules.proofs.LegalInTurn.{owns-say}
+use Rattle.rules.proofs.KindLaws.{sets-moves}
+use Rattle.rules.proofs.Moments.{transaction-bound, at-moment}
 use Rattle.rules.proofs.CompanyInTime.{ListedBefore, no-stranger-says, company-cases, company-told}
-use Rattle.rules.proofs.Moments.{sets-moves, transaction-bound, at-moment}
 use Rattle.rules.proofs.ReadsInTime.{reads-told, in-time-says}
 
 -- nobody stands before itself
@@ -58,18 +59,18 @@ table-last opening order (e ∷ earlier) h c =
 
 -- no event that sets the moment is later than it
 moment-late : (z : Size) (t : ℕ) (day : List Record) → walks z day ≡ true → is-transaction (events day) t ≡ true
-    → (e : Event) → List·Memᴰ e (events day) → e .who ≡ t → sets-moment (e .kind) ≡ true → e .number ≤ moment-of (events day) t
+    → (e : Event) → List·Memᴰ e (events day) → e .who ≡ t → kind-sets-moment (e .kind) ≡ true → e .number ≤ moment-of (events day) t
 unfolding event
 moment-late z t =
-    at-moment z t (λ day. (e : Event) → List·Memᴰ e (events day) → e .who ≡ t → sets-moment (e .kind) ≡ true → e .number ≤ moment-of (events day) t)
+    at-moment z t (λ day. (e : Event) → List·Memᴰ e (events day) → e .who ≡ t → kind-sets-moment (e .kind) ≡ true → e .number ≤ moment-of (events day) t)
     (record {
       on-set = λ r earlier w s q e i o k. omega (arith, number-bounds (r ∷ earlier) i, q);
       on-other = λ r earlier w s q b known e i o k.
           ⊎-elim
           (λ n.
           let own : whose earlier r ≡ t = sym (ap (λ f. f .who) n) ∙ o in
-          let sets : sets-moment (r .kind) ≡ true = sym (ap (λ f. sets-moment (f .kind)) n) ∙ k in
-          absurd (clash (and-both (eqb (whose earlier r) t) (sets-moment (r .kind)) (eq-eqb (whose earlier r) t own) sets) s))
+          let sets : kind-sets-moment (r .kind) ≡ true = sym (ap (λ f. kind-sets-moment (f .kind)) n) ∙ k in
+          absurd (clash (and-both (eqb (whose earlier r) t) (kind-sets-moment (r .kind)) (eq-eqb (whose earlier r) t own) sets) s))
           (λ j. omega (arith, known e j o k, q)) (event-cases r earlier i);
     })
 

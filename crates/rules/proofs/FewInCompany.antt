@@ -3,27 +3,28 @@
 use Prim.Native.Nat.{ℕ, suc, _≤_, _<_}
 use mathlib.Core.Path.{_≡_, refl, sym, _∙_, ap}
 use mathlib.Core.Logic.{⊎-elim}
-use mathlib.Core.Bool.{true, _&&_}
+use mathlib.Core.Bool.{true, false, _&&_}
 use mathlib.Core.List.{List, [], _∷_, List·Memᴰ, List·Memᴰ·head, List·Memᴰ·not-nil}
 use lib.ListN.{length}
 use lib.Dec.{eqb}
 use native.Mathlib.Omega.{arith}
 use borrow.Author.Tests.{eqb-true, eq-eqb}
 use Rattle.basics.specs.Lists.{allIn, member, distinct}
-use Rattle.basics.proofs.Bools.{clash, and-left, and-right, or-left}
+use Rattle.basics.proofs.Bools.{and-left, and-right, or-left}
 use Rattle.basics.proofs.Lists.{all-in-at, all-in-of, member-at, distinct-few}
 use Rattle.rules.specs.declared.Record.{Record}
 use Rattle.rules.specs.Sizes.{Size}
-use Rattle.rules.specs.Daylog.{kind-starts, kind-commits, kind-frees, kind-judged-read}
+use Rattle.rules.specs.Kinds.{kind-commits, kind-frees, kind-sets-moment}
 use Rattle.rules.specs.Layout.{Seat, seat, fields-right, fits, walks}
-use Rattle.rules.specs.Day.{Event, whose, event, events, is-transaction, moment-of, sets-moment}
+use Rattle.rules.specs.Day.{Event, whose, event, events, is-transaction, moment-of}
 use Rattle.rules.specs.Checker.{lists-company}
 use Rattle.rules.proofs.InTime.{in-company}
-use Rattle.rules.proofs.Seats.{frees-says, moved-by, seat-here, seat-other, walks-earlier, fits-uncommitted}
-use Rattle.rules.proofs.Day.{event-cases, whose-starts, whose-others}
+use Rattle.rules.proofs.KindLaws.{commits-hold, sets-hold}
+use Rattle.rules.proofs.Seats.{moved-commits, seat-here, seat-other, walks-earlier, fits-uncommitted}
+use Rattle.rules.proofs.Day.{event-cases, whose-holds}
 use Rattle.rules.proofs.LaidOut.{fields-says}
+use Rattle.rules.proofs.Moments.{at-moment}
 use Rattle.rules.proofs.CompanyInTime.{company-early, company-cases, company-told}
-use Rattle.rules.proofs.Moments.{sets-commits, at-moment}
 
 -- ---- seats
 
@@ -31,39 +32,13 @@ use Rattle.rules.proofs.Moments.{sets-commits, at-moment}
 abbrev CommittedSeat : ℕ → Seat → Type 0
 CommittedSeat k s = (s .status ≡ 2) × (s .begin ≡ k)
 
--- a kind that sets the moment frees no place
-sets-hold : (k : ℕ) → sets-moment k ≡ true → kind-frees k ≡ true → ⊥
-unfolding sets-moment kind-starts kind-judged-read kind-commits
-sets-hold k s f = clash s (⊎-elim (ap sets-moment) (⊎-elim (ap sets-moment) (ap sets-moment)) (frees-says k .0 f))
-
--- after a record that frees nothing its transaction holds the place
-holds-here : (r : Record) (earlier : List Record) → (kind-frees (r .kind) ≡ true → ⊥) → seat (r ∷ earlier) (r .place) .begin ≡ whose earlier r
-unfolding kind-starts
-holds-here r earlier h =
-    let s = seat earlier (r .place) in
-    let n = suc (length earlier) in
-    rw (seat-here r earlier (r .place) refl)
-    (moved-by (λ x. x .begin ≡ whose earlier r) n r s (record {
-      on-begin = λ k. sym (whose-starts earlier r (ap kind-starts k));
-      on-post = λ k. sym (whose-starts earlier r (ap kind-starts k));
-      on-write = λ k. sym (whose-others earlier r (ap kind-starts k));
-      on-commit = λ k. sym (whose-others earlier r (ap kind-starts k));
-      on-free = λ k. absurd (h k);
-      on-quiet = λ q w. sym (whose-others earlier r (q .0));
-    }))
+-- after a record that frees nothing its transaction holds the place, and after a commit it is committed there
+holds-here : (r : Record) (earlier : List Record) → kind-frees (r .kind) ≡ false → seat (r ∷ earlier) (r .place) .begin ≡ whose earlier r
+holds-here r earlier f = ap (λ s. s .begin) (seat-here r earlier (r .place) refl) ∙ whose-holds earlier r f
 
 committed-here : (r : Record) (earlier : List Record) → kind-commits (r .kind) ≡ true → seat (r ∷ earlier) (r .place) .status ≡ 2
-unfolding kind-commits
 committed-here r earlier c =
-    rw (seat-here r earlier (r .place) refl)
-    (moved-by (λ x. x .status ≡ 2) (suc (length earlier)) r (seat earlier (r .place)) (record {
-      on-begin = λ k. absurd (clash c (ap kind-commits k));
-      on-post = λ k. refl;
-      on-write = λ k. absurd (clash c (ap kind-commits k));
-      on-commit = λ k. refl;
-      on-free = λ k. absurd (sets-hold (r .kind) (sets-commits (r .kind) c) k);
-      on-quiet = λ q w. absurd (clash c (q .1));
-    }))
+    ap (λ s. s .status) (seat-here r earlier (r .place) refl) ∙ moved-commits (suc (length earlier)) r (seat earlier (r .place)) c
 
 module _ (z : Size) where
   -- a transaction that has committed holds its place from then on
@@ -79,7 +54,7 @@ module _ (z : Size) where
       newest : e ≡ event earlier r → CommittedSeat (e .who) (seat (r ∷ earlier) (e .place))
       newest q =
           let c′ : kind-commits (r .kind) ≡ true = rw q at c in
-          rw q (committed-here r earlier c′, holds-here r earlier (sets-hold (r .kind) (sets-commits (r .kind) c′)))
+          rw q (committed-here r earlier c′, holds-here r earlier (commits-hold (r .kind) c′))
 
       stays : CommittedSeat (e .who) (seat earlier (e .place)) → CommittedSeat (e .who) (seat (r ∷ earlier) (e .place))
       stays s =
@@ -97,12 +72,12 @@ module _ (z : Size) where
 
 module _ (z : Size) (t : ℕ) where
   -- who is in the company holds a place as a record sets the moment
-  company-holds : (r : Record) (earlier : List Record) → walks z (r ∷ earlier) ≡ true → eqb (whose earlier r) t && sets-moment (r .kind) ≡ true
+  company-holds : (r : Record) (earlier : List Record) → walks z (r ∷ earlier) ≡ true → eqb (whose earlier r) t && kind-sets-moment (r .kind) ≡ true
       → (k : ℕ) → in-company (events (r ∷ earlier)) t k ≡ true → (p : ℕ) × (p < z .places) × (seat (r ∷ earlier) p .begin ≡ k)
   unfolding events event
   company-holds r earlier w s k h =
-      let mine = eqb-true (whose earlier r) t (and-left (eqb (whose earlier r) t) (sets-moment (r .kind)) s) in
-      let sets = and-right (eqb (whose earlier r) t) (sets-moment (r .kind)) s in
+      let mine = eqb-true (whose earlier r) t (and-left (eqb (whose earlier r) t) (kind-sets-moment (r .kind)) s) in
+      let sets = and-right (eqb (whose earlier r) t) (kind-sets-moment (r .kind)) s in
       ⊎-elim
       (λ q. (r .place, place-bound z (r ∷ earlier) w (List·Memᴰ·head refl), holds-here r earlier (sets-hold (r .kind) sets) ∙ mine ∙ sym q))
       (λ x. (x .0 .place, place-bound z (r ∷ earlier) w (x .1), committed-seat z (r ∷ earlier) w (x .1) (x .2) .1 ∙ x .3))

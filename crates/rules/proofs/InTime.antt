@@ -10,8 +10,8 @@ use Rattle.basics.specs.Lists.{allIn, anyIn, member, distinct, keeps}
 use Rattle.basics.specs.Bytes.{same}
 use Rattle.rules.specs.Sizes.{Size}
 use Rattle.rules.specs.Cells.{cell-of}
-use Rattle.rules.specs.Daylog.{kind-starts, kind-commits, kind-judged-read, kind-own-read}
-use Rattle.rules.specs.Day.{Event, commit-of, committed, sets-moment, moment-of, wrote-cell, written-value}
+use Rattle.rules.specs.Kinds.{kind-starts, kind-commits, kind-judged-read, kind-own-read, kind-sets-moment}
+use Rattle.rules.specs.Day.{Event, commit-of, committed, moment-of, wrote-cell, written-value}
 
 -- ---- pairs
 
@@ -62,7 +62,7 @@ has-stranger order es = anyIn (λ e. kind-commits (e .kind) && not (member (e .w
 unfoldable pub no-stranger : ℕ → List ℕ → List Event → Bool
 no-stranger t order [] = true
 no-stranger t order (e ∷ earlier) =
-    no-stranger t order earlier && cond (eqb (e .who) t && sets-moment (e .kind)) (not (has-stranger order earlier)) true
+    no-stranger t order earlier && cond (eqb (e .who) t && kind-sets-moment (e .kind)) (not (has-stranger order earlier)) true
 
 -- a listed transaction is t or committed before the moment of t
 unfoldable pub in-company : List Event → ℕ → ℕ → Bool
@@ -73,7 +73,7 @@ in-company es t k = eqb k t || (committed es k && ltb (commit-of es k) (moment-o
 -- event e, behind the earlier ones, breaks nothing
 unfoldable pub step-right : Size → List ℕ → ℕ → List ℕ → List Event → Event → Bool
 step-right z opening t order earlier e =
-    cond (eqb (e .who) t && sets-moment (e .kind)) (not (has-stranger order earlier)) true
+    cond (eqb (e .who) t && kind-sets-moment (e .kind)) (not (has-stranger order earlier)) true
     && (keeps (λ k m. eqb (e .who) m && arises z earlier e k) order
     && (cond (member (e .who) order && kind-judged-read (e .kind)) (same (e .value) (table-by opening order earlier (e .cell))) true
     && cond (member (e .who) order && kind-own-read (e .kind)) (same (e .value) (written-value earlier (e .who) (e .cell))) true))

@@ -20,40 +20,10 @@ use Rattle.rules.specs.Kept.{LiveCaller}
 use Rattle.rules.proofs.CellLaws.{cell-length}
 use Rattle.rules.proofs.EachCall.{AskedOf}
 use Rattle.rules.proofs.Handles.{place-of-below}
-use Rattle.rules.proofs.Seats.{frees-says}
+use Rattle.rules.proofs.KindLaws.{FreesOnly, frees-only}
 use Rattle.rules.proofs.Shape.{Wide, wide-read-marked, wide-sealed, shaped-wide}
 use Rattle.rules.proofs.SoundStep.{Fits}
 use Rattle.rules.proofs.SoundAfter.{fits-read-marked, fits-sealed}
-
--- ---- kinds
-
--- a kind that frees the place is a known one, and commits, writes and reads nothing
-pub record FreesOnly (k : ℕ) : Type 0 where
-  pub known : leb lowest-kind k && leb k highest-kind ≡ true
-  pub small : k < 256
-  pub commits : kind-commits k ≡ false
-  pub writes : kind-writes k ≡ false
-  pub judged-read : kind-judged-read k ≡ false
-  pub own-read : kind-own-read k ≡ false
-  pub judged : kind-judged k ≡ false
-
--- what is told alike of the three kinds that free it is told of each
-alike : (f : ℕ → Bool) (x : Bool) → f give-up-kind ≡ x → f read-conflict-kind ≡ x → f commit-conflict-kind ≡ x → (k : ℕ) → kind-frees k ≡ true → f k ≡ x
-alike f x gives-up read commit k e =
-    ⊎-elim (λ q. ap f q ∙ gives-up) (⊎-elim (λ q. ap f q ∙ read) (λ q. ap f q ∙ commit)) (frees-says k .0 e)
-
-pub frees-only : (k : ℕ) → kind-frees k ≡ true → FreesOnly k
-unfolding kind-commits kind-writes kind-judged-read kind-own-read kind-judged
-frees-only k e =
-    record {
-      known = alike (λ x. leb lowest-kind x && leb x highest-kind) true refl refl refl k e;
-      small = ltb-true k 256 (alike (λ x. ltb x 256) true refl refl refl k e);
-      commits = alike kind-commits false refl refl refl k e;
-      writes = alike kind-writes false refl refl refl k e;
-      judged-read = alike kind-judged-read false refl refl refl k e;
-      own-read = alike kind-own-read false refl refl refl k e;
-      judged = alike kind-judged false refl refl refl k e;
-    }
 
 -- any value where a kind has one, zero where it has none
 pub allowed : (has unused : Bool) → (has ≡ false → unused ≡ true) → cond has true unused ≡ true

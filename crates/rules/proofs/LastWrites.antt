@@ -8,7 +8,7 @@ use lib.Dec.{eqb}
 use borrow.Author.Tests.{eq-eqb, ne-eqb}
 use Rattle.basics.specs.Lists.{anyIn}
 use Rattle.basics.proofs.Bools.{and-fails-right}
-use Rattle.rules.specs.Daylog.{kind-commits, kind-writes}
+use Rattle.rules.specs.Kinds.{kind-commits, kind-writes}
 use Rattle.rules.specs.Day.{Event, wrote-cell, written-value}
 use Rattle.rules.specs.History.{last-write}
 

@@ -17,7 +17,7 @@ use Rattle.basics.proofs.Lists.{member-nil, member-head, member-tail, member-ca
 use Rattle.basics.proofs.Says.{eqb-says, and-says, both-says}
 use Rattle.rules.specs.declared.Record.{Record}
 use Rattle.rules.specs.Sizes.{Size}
-use Rattle.rules.specs.Daylog.{kind-judged-read, kind-own-read}
+use Rattle.rules.specs.Kinds.{kind-judged-read, kind-own-read}
 use Rattle.rules.specs.Layout.{walks}
 use Rattle.rules.specs.Day.{Event, events, committed, wrote-cell, written-value, company-of}
 use Rattle.rules.specs.Checker.{lists-company, carried, reads-carried, own-reads-right}

@@ -30,6 +30,7 @@ pub mod InTurn
 pub mod Joined
 pub mod JudgedStep
 pub mod Judging
+pub mod KindLaws
 pub mod LaidOut
 pub mod LastWrites
 pub mod LegalInTurn

@@ -15,7 +15,8 @@ use Rattle.rules.specs.Sizes.{Size, table-bytes, drafts-bytes}
 use Rattle.rules.specs.Books.{Books, Shaped, place-at, is-live, is-committed, is-held, wrote, first-read, last-read}
 use Rattle.rules.specs.Sound.{Sound}
 use Rattle.rules.specs.Cells.{cell-of, draft-of}
-use Rattle.rules.specs.Daylog.{AllProper, kind-judged-read}
+use Rattle.rules.specs.Kinds.{kind-judged-read}
+use Rattle.rules.specs.Daylog.{AllProper}
 use Rattle.rules.specs.Layout.{seat, walks}
 use Rattle.rules.specs.Day.{Event, events, latest, commit-of, committed, wrote-cell, written-value}
 use Rattle.rules.specs.Run.{Machine}

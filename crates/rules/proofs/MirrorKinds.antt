@@ -16,7 +16,8 @@ use Rattle.rules.specs.declared.Place.{Place}
 use Rattle.rules.specs.declared.Record.{Record}
 use Rattle.rules.specs.Sizes.{Size, width}
 use Rattle.rules.specs.Books.{wrote, first-read, last-read, no-cells, no-reads, freed, begun, posted, marked, read-marked, sealed}
-use Rattle.rules.specs.Daylog.{begin-kind, judged-read-kind, own-read-kind, write-kind, commit-kind, post-kind, kind-starts, kind-commits, kind-frees, kind-writes, kind-judged-read, no-value}
+use Rattle.rules.specs.Kinds.{begin-kind, judged-read-kind, own-read-kind, write-kind, commit-kind, post-kind, kind-starts, kind-commits, kind-writes, kind-frees, kind-judged-read}
+use Rattle.rules.specs.Daylog.{no-value}
 use Rattle.rules.specs.Steps.{record-at}
 use Rattle.rules.specs.Layout.{moved, seat}
 use Rattle.rules.specs.Day.{events}
@@ -115,13 +116,13 @@ module _ (z : Size) (day : List Record) (i : ℕ) (p : Place) where
 
     -- begin and post
     pub mirrors-begun : Mirrors z (record-at begin-kind i (begun p n) 0 no-value ∷ day) i (begun p n)
-    unfolding begun moved kind-starts
+    unfolding begun moved kind-starts kind-commits kind-writes kind-frees
     mirrors-begun =
         starts (record-at begin-kind i (begun p n) 0 no-value) (begun p n) refl refl refl
         (record { begin = refl; turn = refl; cells = λ k h. member-nil k ∙ sym (getD-replicate-same width k false) }) (changes-begun z n p)
 
     pub mirrors-posted : (c : ℕ) (value : List ℕ) → c < width → Mirrors z (record-at post-kind i (posted p c n) c value ∷ day) i (posted p c n)
-    unfolding posted moved kind-starts
+    unfolding posted moved kind-starts kind-commits kind-writes kind-frees
     mirrors-posted c value inside =
         starts (record-at post-kind i (posted p c n) c value) (posted p c n) refl refl refl
         (record {
@@ -147,25 +148,25 @@ module _ (z : Size) (day : List Record) (i : ℕ) (p : Place) where
 
       -- write, own read, judged read and commit
       pub mirrors-marked : (c : ℕ) (value : List ℕ) → c < length (p .written) → Mirrors z (record-at write-kind i p c value ∷ day) i (marked p c)
-      unfolding marked moved kind-starts
+      unfolding marked moved kind-starts kind-commits kind-writes kind-frees
       mirrors-marked c value inside =
           goes-on (record-at write-kind i p c value) (marked p c) refl refl refl (m .status)
           (record { begin = here .begin; turn = here .turn; cells = λ k h. cells-more (seat day i .written) (p .written) c k inside (here .cells k h) })
           (changes-marked z n p c inside)
 
       pub mirrors-own-read : (c : ℕ) (value : List ℕ) → Mirrors z (record-at own-read-kind i p c value ∷ day) i p
-      unfolding moved kind-starts kind-frees
+      unfolding moved kind-starts kind-commits kind-writes kind-frees
       mirrors-own-read c value =
           goes-on (record-at own-read-kind i p c value) p refl refl refl (m .status) (sits z day i p here) (changes-own-read z n p c)
 
       pub mirrors-read : (c : ℕ) (value : List ℕ) → c < width → Wide p → Mirrors z (record-at judged-read-kind i p c value ∷ day) i (read-marked p c n)
-      unfolding read-marked moved kind-starts kind-frees
+      unfolding read-marked moved kind-starts kind-commits kind-writes kind-frees
       mirrors-read c value inside w =
           goes-on (record-at judged-read-kind i p c value) (read-marked p c n) refl refl refl (m .status)
           (record { begin = here .begin; turn = here .turn; cells = here .cells }) (changes-read z n p c inside w)
 
       pub mirrors-sealed : (value : List ℕ) → Mirrors z (record-at commit-kind i p 0 value ∷ day) i (sealed p n)
-      unfolding sealed moved kind-starts
+      unfolding sealed moved kind-starts kind-commits kind-writes kind-frees
       mirrors-sealed value =
           goes-on (record-at commit-kind i p 0 value) (sealed p n) refl refl refl refl
           (record { begin = here .begin; turn = here .turn; cells = here .cells }) (changes-sealed z n p)

@@ -11,20 +11,20 @@ use native.Mathlib.Omega.{arith}
 use borrow.Author.Tests.{eqb-true, eq-eqb, ne-eqb}
 use Rattle.basics.specs.Lists.{anyIn, member}
 use Rattle.basics.proofs.Bools.{split, and-both, and-fails-left, or-false-left, or-false-right}
-use Rattle.basics.proofs.Says.{eqb-says, or-says}
 use Rattle.rules.specs.declared.Place.{Place}
 use Rattle.rules.specs.declared.Record.{Record}
 use Rattle.rules.specs.Sizes.{Size}
 use Rattle.rules.specs.Books.{Books, Shaped, place-at, is-committed, is-held, wrote, first-read, last-read}
 use Rattle.rules.specs.Sound.{Sound}
-use Rattle.rules.specs.Daylog.{commit-kind, post-kind, kind-starts, kind-commits, kind-writes, kind-judged-read}
+use Rattle.rules.specs.Daylog.{kind-starts, kind-commits, kind-writes, kind-judged-read}
 use Rattle.rules.specs.Layout.{Seat, moved, seat, fits, fields-right, walks}
 use Rattle.rules.specs.Day.{Event, whose, event, events, latest, commit-of, committed, wrote-cell}
 use Rattle.rules.proofs.Mirror.{earliest, reads-it, Holds, Mirrors, HeldCommitted, CommittedAreHeld, Mirrored}
 use Rattle.rules.proofs.Shape.{each-changed}
 use Rattle.rules.proofs.Sound.{Clear, held-status}
-use Rattle.rules.proofs.Seats.{walks-earlier, fits-live, fits-uncommitted, moved-post, moved-commit, seat-here, seat-other}
-use Rattle.rules.proofs.Day.{begin-bound, whose-starts, whose-others}
+use Rattle.rules.proofs.Seats.{walks-earlier, fits-live, fits-uncommitted, moved-commits, seat-here, seat-other}
+use Rattle.rules.proofs.KindLaws.{commits-hold}
+use Rattle.rules.proofs.Day.{begin-bound, whose-starts, whose-others, whose-holds}
 use Rattle.rules.proofs.Commits.{begins-differ, latest-none}
 use Rattle.rules.proofs.Moments.{none-yet}
 use Rattle.rules.proofs.CommittedHeld.{committed-more}
@@ -194,13 +194,7 @@ module _ (z : Size) (r : Record) (day : List Record) where
 -- a record that commits seals the seat of its place for the transaction whose it is
 commits-seat : (day : List Record) (r : Record) → kind-commits (r .kind) ≡ true → let s = moved (suc (length day)) r (seat day (r .place)) in
     (s .status ≡ 2) × (s .begin ≡ whose day r)
-unfolding kind-commits kind-starts
-commits-seat day r k =
-    let n = suc (length day) in
-    let s = seat day (r .place) in
-    ⊎-elim (λ c. rw (moved-commit n r s c) (refl, sym (whose-others day r (ap kind-starts c))))
-    (λ p. rw (moved-post n r s p) (refl, sym (whose-starts day r (ap kind-starts p))))
-    (or-says (eqb-says (r .kind) commit-kind) (eqb-says (r .kind) post-kind) .0 k)
+commits-seat day r k = (moved-commits (suc (length day)) r (seat day (r .place)) k, whose-holds day r (commits-hold (r .kind) k))
 
 module _ (z : Size) (b : Books) (r : Record) (day : List Record) (m : Mirrored z b day) (right : fields-right z r ≡ true) (fit : fits day r ≡ true) where
   -- the day with the record walks

@@ -20,7 +20,7 @@ use Rattle.rules.specs.Books.{Books, Shaped, place-at, wrote, freed, beg
 use Rattle.rules.specs.Handles.{place-of}
 use Rattle.rules.specs.Sound.{Sound}
 use Rattle.rules.specs.Cells.{draft-of}
-use Rattle.rules.specs.Daylog.{lowest-kind, highest-kind, begin-kind, judged-read-kind, own-read-kind, write-kind, commit-kind, give-up-kind, read-conflict-kind, commit-conflict-kind, post-kind, kind-starts, kind-frees, kind-has-cell, kind-has-value, no-value}
+use Rattle.rules.specs.Daylog.{lowest-kind, highest-kind, begin-kind, judged-read-kind, own-read-kind, write-kind, commit-kind, give-up-kind, read-conflict-kind, commit-conflict-kind, post-kind, kind-starts, kind-frees, kind-own-read, kind-table-read, kind-has-cell, kind-has-value, no-value}
 use Rattle.rules.specs.Layout.{seat, fits, fields-right, walks}
 use Rattle.rules.specs.State.{Outcome, refused, recorded}
 use Rattle.rules.specs.Steps.{number-of, record-at, Judged, books-granted, granted-of, turned-back, own-read-of, open-rule, begin-of, write-of, show-of, give-up-of, post-of, order-of, close-of}
@@ -31,7 +31,8 @@ use Rattle.rules.specs.Runs.{DayStarts}
 use Rattle.rules.proofs.Mirror.{Holds, Mirrors, Mirrored}
 use Rattle.rules.proofs.Asked.{lowest-is-free}
 use Rattle.rules.proofs.EachCall.{AskedOf, EachOutcome, each-call}
-use Rattle.rules.proofs.JudgedStep.{allowed, frees-only, wide-caller, judged-step}
+use Rattle.rules.proofs.JudgedStep.{allowed, wide-caller, judged-step}
+use Rattle.rules.proofs.KindLaws.{frees-only}
 use Rattle.rules.proofs.Shape.{wide-freed, place-at-same, place-at-other, place-at-opened, place-at-closed, shaped-opened, shaped-closed, shaped-with-place}
 use Rattle.rules.proofs.Sound.{sound-says}
 use Rattle.rules.proofs.SoundKept.{sound-opened, sound-closed}
@@ -99,14 +100,14 @@ module _ (day : List Record) (r : Record) where
 
   -- the other kinds fit at a live one with its turn, if the cell is written or unwritten as they ask
   fits-caller : kind-starts (r .kind) ≡ false → LiveSeat (r .turn) (seat day (r .place))
-      → (eqb (r .kind) own-read-kind ≡ true → member (r .cell) (seat day (r .place) .written) ≡ true)
-      → (eqb (r .kind) judged-read-kind || eqb (r .kind) read-conflict-kind ≡ true → member (r .cell) (seat day (r .place) .written) ≡ false)
+      → (kind-own-read (r .kind) ≡ true → member (r .cell) (seat day (r .place) .written) ≡ true)
+      → (kind-table-read (r .kind) ≡ true → member (r .cell) (seat day (r .place) .written) ≡ false)
       → fits day r ≡ true
   unfolding fits
   fits-caller k live own unwritten =
       rw (k, live .0, eq-eqb _ _ (live .1))
-      (and-both _ _ (if-says (eqb (r .kind) own-read-kind) Iff·rfl .1 own)
-      (if-says (eqb (r .kind) judged-read-kind || eqb (r .kind) read-conflict-kind) (not-says _) .1 unwritten))
+      (and-both _ _ (if-says (kind-own-read (r .kind)) Iff·rfl .1 own)
+      (if-says (kind-table-read (r .kind)) (not-says _) .1 unwritten))
 
 -- ---- every call
 
@@ -146,8 +147,8 @@ module _ (z : Size) (l : Lending) (m : Machine) (w : Within z) (mirror : Mirrore
     held = here .holds (rw (caller .live))
 
     -- a record that starts nothing, and what it asks of its cell
-    caller-fits : (kind c : ℕ) (value : List ℕ) → kind-starts kind ≡ false → (eqb kind own-read-kind ≡ true → (c < z .cells) × (wrote p c ≡ true))
-        → (eqb kind judged-read-kind || eqb kind read-conflict-kind ≡ true → (c < z .cells) × (wrote p c ≡ false))
+    caller-fits : (kind c : ℕ) (value : List ℕ) → kind-starts kind ≡ false → (kind-own-read kind ≡ true → (c < z .cells) × (wrote p c ≡ true))
+        → (kind-table-read kind ≡ true → (c < z .cells) × (wrote p c ≡ false))
         → fits day (record-at kind i p c value) ≡ true
     caller-fits kind c value k own unwritten =
         fits-caller day (record-at kind i p c value) k (here .status ∙ caller .live, held .turn)
@@ -174,7 +175,7 @@ module _ (z : Size) (l : Lending) (m : Machine) (w : Within z) (mirror : Mirrore
 
   -- each of the judged calls
   records-fit : {c : Call} {h : ℕ} {j : Judged} → IsJudged z (owns b) (m .state) c h j → AskedOf z l (m .state) c → RecordsFit h j
-  unfolding kind-starts
+  unfolding kind-starts kind-own-read kind-table-read
   records-fit (read-judged h c other) asked =
       let caller = asked .caller in
       record {
@@ -243,7 +244,7 @@ module _ (z : Size) (l : Lending) (m : Machine) (w : Within z) (mirror : Mirrore
   -- a write marks the cell at its caller's place
   keeps-write : (h c : ℕ) (value : List ℕ) → WriteAsked z (length value) (length (m .state .drafts)) (l .log) b h c
       → Keeps (write-of z (m .state) (place-of h) c value)
-  unfolding after-call moved-on write-of recorded kind-starts kind-has-cell kind-has-value
+  unfolding after-call moved-on write-of recorded kind-starts kind-own-read kind-table-read kind-has-cell kind-has-value
   keeps-write h c value asked =
       let caller = asked .caller in
       let i = place-of h in
@@ -258,7 +259,7 @@ module _ (z : Size) (l : Lending) (m : Machine) (w : Within z) (mirror : Mirrore
   -- an own read changes no place
   keeps-own-read : (h c : ℕ) → ReadAsked z (length (m .state .table)) (length (m .state .drafts)) (l .log) b h c
       → wrote (place-at b (place-of h)) c ≡ true → Keeps (own-read-of z (m .state) (place-of h) c)
-  unfolding after-call moved-on own-read-of recorded with-record kind-starts kind-has-cell kind-has-value
+  unfolding after-call moved-on own-read-of recorded with-record kind-starts kind-own-read kind-table-read kind-has-cell kind-has-value
   keeps-own-read h c asked own =
       let caller = asked .caller in
       let i = place-of h in
@@ -273,7 +274,7 @@ module _ (z : Size) (l : Lending) (m : Machine) (w : Within z) (mirror : Mirrore
 
   -- so does every outcome
   pub mirrored-each : EachOutcome z l (m .state) (λ c o. Mirrored z (after-call m o .state .books) (after-call m o .day))
-  unfolding after-call moved-on new-day refused open-rule granted-of show-of turned-back give-up-of order-of close-of recorded kind-starts kind-frees kind-has-cell kind-has-value
+  unfolding after-call moved-on new-day refused open-rule granted-of show-of turned-back give-up-of order-of close-of recorded kind-starts kind-own-read kind-table-read kind-frees kind-has-cell kind-has-value
   mirrored-each =
       record {
         on-refused = λ c n k j. mirror;

@@ -1,54 +1,26 @@
--- The moment of a transaction moves with its records, one after the other: which kinds set it, who has begun by a record, and what holds at a
--- moment. Rests on the laws of events and commits. Assumes nothing.
+-- The moment of a transaction moves with its records, one after the other: who has begun by a record, and what holds at a
+-- moment. Rests on the laws of kinds, events and commits. Assumes nothing.
 use Prim.Native.Nat.{ℕ, suc, _≤_, _<_}
 use mathlib.Core.Path.{_≡_, refl, sym, _∙_, ap}
-use mathlib.Core.Logic.{_↔_, _⊎_, inl, inr, ⊎-elim}
-use mathlib.Core.Bool.{Bool, true, false, cond, _&&_, _||_, false≢true}
+use mathlib.Core.Logic.{_⊎_, inl, inr, ⊎-elim}
+use mathlib.Core.Bool.{Bool, true, false, cond, _&&_, false≢true}
 use mathlib.Core.List.{List, [], _∷_}
 use lib.ListN.{length}
 use lib.Dec.{eqb}
 use native.Mathlib.Omega.{arith}
 use borrow.Author.Tests.{eqb-true, eq-eqb, ne-eqb}
 use Rattle.basics.specs.Lists.{anyIn}
-use Rattle.basics.proofs.Bools.{split, clash, false-of-not, and-left, and-right, and-both, and-fails-left, or-true, or-left, or-right, or-fails, or-false-left, or-false-right, cond-passes, cond-fails, equal-or-not}
+use Rattle.basics.proofs.Bools.{split, clash, false-of-not, and-left, and-right, and-both, and-fails-left, or-true, cond-passes, cond-fails, equal-or-not}
 use Rattle.basics.proofs.Lists.{any-in-fails}
 use Rattle.rules.specs.declared.Record.{Record}
 use Rattle.rules.specs.Sizes.{Size}
-use Rattle.rules.specs.Daylog.{kind-starts, kind-commits}
+use Rattle.rules.specs.Kinds.{kind-starts, kind-commits, kind-moves-moment, kind-sets-moment}
 use Rattle.rules.specs.Layout.{walks}
-use Rattle.rules.specs.Day.{Event, whose, event, events, latest, is-transaction, commit-of, committed, moves-moment, moment-of, sets-moment}
+use Rattle.rules.specs.Day.{Event, whose, event, events, latest, is-transaction, commit-of, committed, moment-of}
+use Rattle.rules.proofs.KindLaws.{sets-starts, sets-moves, sets-commits, sets-nothing}
 use Rattle.rules.proofs.Seats.{walks-earlier}
 use Rattle.rules.proofs.Day.{number-bounds, whose-starts, who-bound, started}
 use Rattle.rules.proofs.Commits.{committed-ends, latest-none, moment-at-most}
-
--- ---- kinds
-
--- the kinds that set the moment
-module _ (k : ℕ) where
-  pub sets-starts : kind-starts k ≡ true → sets-moment k ≡ true
-  unfolding sets-moment
-  sets-starts e = or-left (kind-starts k) (moves-moment k || kind-commits k) e
-
-  pub sets-moves : moves-moment k ≡ true → sets-moment k ≡ true
-  unfolding sets-moment
-  sets-moves e = or-right (kind-starts k) (moves-moment k || kind-commits k) (or-left (moves-moment k) (kind-commits k) e)
-
-  pub sets-commits : kind-commits k ≡ true → sets-moment k ≡ true
-  unfolding sets-moment
-  sets-commits e = or-right (kind-starts k) (moves-moment k || kind-commits k) (or-right (moves-moment k) (kind-commits k) e)
-
-  -- and those that do not
-  pub sets-nothing : (sets-moment k ≡ false) ↔ ((kind-starts k ≡ false) × (moves-moment k ≡ false) × (kind-commits k ≡ false))
-  unfolding sets-moment
-  sets-nothing = (
-    λ e.
-        let rest = or-false-right (kind-starts k) (moves-moment k || kind-commits k) e in (
-          or-false-left (kind-starts k) (moves-moment k || kind-commits k) e,
-          or-false-left (moves-moment k) (kind-commits k) rest,
-          or-false-right (moves-moment k) (kind-commits k) rest,
-        ),
-    λ n. or-fails (kind-starts k) (moves-moment k || kind-commits k) (n .0) (or-fails (moves-moment k) (kind-commits k) (n .1) (n .2)),
-  )
 
 -- ---- who has begun
 
@@ -70,12 +42,12 @@ module _ (r : Record) (earlier : List Record) (t : ℕ) (begun : is-transaction 
       inr (or-true (number && starts) (is-transaction (events earlier) t) begun)
 
   -- and before if the record does not set its moment
-  pub begun-earlier : eqb (whose earlier r) t && sets-moment (r .kind) ≡ false → is-transaction (events earlier) t ≡ true
+  pub begun-earlier : eqb (whose earlier r) t && kind-sets-moment (r .kind) ≡ false → is-transaction (events earlier) t ≡ true
   begun-earlier still =
       ⊎-elim
       (λ x.
       let own = eq-eqb (whose earlier r) t (x .0) in
-      absurd (clash (and-both (eqb (whose earlier r) t) (sets-moment (r .kind)) own (sets-starts (r .kind) (x .1))) still))
+      absurd (clash (and-both (eqb (whose earlier r) t) (kind-sets-moment (r .kind)) own (sets-starts (r .kind) (x .1))) still))
       (λ i. i) begun-cases
 
 -- a transaction has no events before it starts
@@ -94,21 +66,21 @@ uncommitted z r earlier w = false-of-not _ (λ c. committed-ends z r earlier (wh
 -- the moment after one more record
 pub moment-more : (z : Size) (t : ℕ) (r : Record) (earlier : List Record) → walks z (r ∷ earlier) ≡ true
     → moment-of (events (r ∷ earlier)) t
-    ≡ cond (eqb (whose earlier r) t && sets-moment (r .kind)) (suc (length earlier)) (moment-of (events earlier) t)
+    ≡ cond (eqb (whose earlier r) t && kind-sets-moment (r .kind)) (suc (length earlier)) (moment-of (events earlier) t)
 unfolding moment-of committed commit-of latest anyIn events event
 moment-more z t r earlier w = equal-or-not (whose earlier r) t mine (λ q. rw (ne-eqb (whose earlier r) t q))
   where
     mine : whose earlier r ≡ t → moment-of (events (r ∷ earlier)) t
-        ≡ cond (eqb (whose earlier r) t && sets-moment (r .kind)) (suc (length earlier)) (moment-of (events earlier) t)
+        ≡ cond (eqb (whose earlier r) t && kind-sets-moment (r .kind)) (suc (length earlier)) (moment-of (events earlier) t)
     mine q =
         let same = eq-eqb (whose earlier r) t q in
         let before : committed (events earlier) t ≡ false = ap (committed (events earlier)) (sym q) ∙ uncommitted z r earlier w in
         split (kind-commits (r .kind)) (λ c. rw (same, sets-commits (r .kind) c, c)) λ c.
-        split (moves-moment (r .kind)) (λ m. rw (same, sets-moves (r .kind) m, c, m, before, ne-eqb (suc (length earlier)) 0 (λ z. omega arith))) λ m.
+        split (kind-moves-moment (r .kind)) (λ m. rw (same, sets-moves (r .kind) m, c, m, before, ne-eqb (suc (length earlier)) 0 (λ z. omega arith))) λ m.
         split (kind-starts (r .kind))
         (λ s.
         let number = sym q ∙ whose-starts earlier r s in
-        rw (same, sets-starts (r .kind) s, c, m, before, latest-none _ (events earlier) (none-yet (λ e. moves-moment (e .kind)) earlier t (omega arith))) number)
+        rw (same, sets-starts (r .kind) s, c, m, before, latest-none _ (events earlier) (none-yet (λ e. kind-moves-moment (e .kind)) earlier t (omega arith))) number)
         (λ s. rw (same, sets-nothing (r .kind) .1 (s, m, c), c, m))
 
 -- it is a number of the day
@@ -118,9 +90,9 @@ moment-counted day t begun = moment-at-most day t (transaction-bound day t begun
 module _ (z : Size) (t : ℕ) where
   -- what holds with each record that sets the moment, and stays so past another, holds of the day
   pub record AtMoment (P : List Record → Type 0) : Type 0 where
-    pub on-set : (r : Record) (earlier : List Record) → walks z (r ∷ earlier) ≡ true → eqb (whose earlier r) t && sets-moment (r .kind) ≡ true
+    pub on-set : (r : Record) (earlier : List Record) → walks z (r ∷ earlier) ≡ true → eqb (whose earlier r) t && kind-sets-moment (r .kind) ≡ true
         → moment-of (events (r ∷ earlier)) t ≡ suc (length earlier) → P (r ∷ earlier)
-    pub on-other : (r : Record) (earlier : List Record) → walks z (r ∷ earlier) ≡ true → eqb (whose earlier r) t && sets-moment (r .kind) ≡ false
+    pub on-other : (r : Record) (earlier : List Record) → walks z (r ∷ earlier) ≡ true → eqb (whose earlier r) t && kind-sets-moment (r .kind) ≡ false
         → moment-of (events (r ∷ earlier)) t ≡ moment-of (events earlier) t → moment-of (events earlier) t ≤ length earlier
         → P earlier → P (r ∷ earlier)
 
@@ -128,7 +100,7 @@ module _ (z : Size) (t : ℕ) where
   unfolding is-transaction anyIn events
   at-moment P a [] w i = absurd (false≢true i)
   at-moment P a (r ∷ earlier) w i =
-      let sets = eqb (whose earlier r) t && sets-moment (r .kind) in
+      let sets = eqb (whose earlier r) t && kind-sets-moment (r .kind) in
       let moment = moment-more z t r earlier w in
       split sets (λ s. a .on-set r earlier w s (moment ∙ cond-passes _ _ s)) λ s.
       let begun = begun-earlier r earlier t i s in

@@ -13,9 +13,9 @@ use Rattle.basics.proofs.Bools.{split, clash, and-left, and-right, and-both, or
 use Rattle.basics.proofs.Says.{eqb-says, ltb-says, not-says-not, and-says, or-says, any-says, any-in-says}
 use Rattle.rules.specs.declared.Record.{Record}
 use Rattle.rules.specs.Sizes.{Size}
-use Rattle.rules.specs.Daylog.{kind-writes, kind-judged-read}
+use Rattle.rules.specs.Kinds.{kind-writes, kind-judged-read, kind-sets-moment}
 use Rattle.rules.specs.Layout.{walks}
-use Rattle.rules.specs.Day.{Event, event, events, whose, is-transaction, commit-of, committed, moment-of, sets-moment, wrote-cell, company-of, day-real-time, day-write-write, day-write-read, day-read-write, day-before}
+use Rattle.rules.specs.Day.{Event, event, events, whose, is-transaction, commit-of, committed, moment-of, wrote-cell, company-of, day-real-time, day-write-write, day-write-read, day-read-write, day-before}
 use Rattle.rules.specs.History.{Before, Of, Commits, Writes, Wholly, RealTime, local, WriteWrite, WriteRead, ReadWrite, ConflictOrder}
 use Rattle.rules.proofs.Day.{who-bound, started}
 use Rattle.rules.proofs.Commits.{commit-event, committed-by, commit-of-event}
@@ -40,7 +40,7 @@ module _ (z : Size) where
       at-moment z t (λ rs. (e : Event) × Of (events rs) t e × (e .number ≡ moment-of (events rs) t))
       (record {
         on-set = λ r earlier w s q.
-            (event earlier r, (List·Memᴰ·head refl, eqb-says (whose earlier r) t .0 (and-left (eqb (whose earlier r) t) (sets-moment (r .kind)) s)), sym q);
+            (event earlier r, (List·Memᴰ·head refl, eqb-says (whose earlier r) t .0 (and-left (eqb (whose earlier r) t) (kind-sets-moment (r .kind)) s)), sym q);
         on-other = λ r earlier w s q b x. (x .0, (List·Memᴰ·tail (x .1 .0), x .1 .1), x .2 ∙ sym q);
       })
       day

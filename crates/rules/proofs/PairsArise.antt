@@ -16,7 +16,7 @@ use Rattle.basics.proofs.Regrouped.{and-over-or, absorbed, or-five}
 use Rattle.basics.proofs.Lists.{any-in-fails}
 use Rattle.basics.proofs.Says.{eqb-says, ltb-says, and-says, or-says, any-says, any-in-says}
 use Rattle.rules.specs.Sizes.{Size}
-use Rattle.rules.specs.Daylog.{kind-starts, kind-commits, kind-writes, kind-judged-read}
+use Rattle.rules.specs.Kinds.{kind-starts, kind-commits, kind-writes, kind-judged-read}
 use Rattle.rules.specs.Day.{Event, latest, is-transaction, commit-of, committed, wrote-cell, day-real-time, day-write-write, day-write-read, day-read-write, day-before}
 use Rattle.rules.proofs.InTime.{read-cell, committed-cell, arises}
 

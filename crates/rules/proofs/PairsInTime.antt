@@ -12,7 +12,7 @@ use Rattle.basics.proofs.Bools.{and-fails-right}
 use Rattle.basics.proofs.Lists.{all-in-at, member-at, keeps-cong, keeps-or, keeps-nobody, distinct-keeps-cong}
 use Rattle.rules.specs.declared.Record.{Record}
 use Rattle.rules.specs.Sizes.{Size}
-use Rattle.rules.specs.Daylog.{kind-starts}
+use Rattle.rules.specs.Kinds.{kind-starts}
 use Rattle.rules.specs.Layout.{walks}
 use Rattle.rules.specs.Day.{whose, event, events, is-transaction, day-before}
 use Rattle.rules.proofs.Seats.{walks-earlier}

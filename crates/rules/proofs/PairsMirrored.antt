@@ -19,7 +19,7 @@ use Rattle.rules.specs.declared.Record.{Record}
 use Rattle.rules.specs.Sizes.{Size}
 use Rattle.rules.specs.Books.{Books, place-at, is-committed, is-held, wrote, first-read, last-read}
 use Rattle.rules.specs.Judging.{latest-read, moment, company, real-time, write-write, write-read, read-write, precedes, stands-before}
-use Rattle.rules.specs.Daylog.{kind-starts, kind-judged-read}
+use Rattle.rules.specs.Kinds.{kind-starts, kind-judged-read}
 use Rattle.rules.specs.Layout.{walks}
 use Rattle.rules.specs.Day.{Event, event, events, latest, is-transaction, moment-of, wrote-cell, company-of, day-real-time, day-write-write, day-write-read, day-read-write, day-before}
 use Rattle.rules.proofs.Mirror.{earliest, reads-it, Holds, Mirrored}

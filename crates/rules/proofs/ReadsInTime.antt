@@ -9,7 +9,7 @@ use lib.ListN.{length}
 use lib.Dec.{eqb, ltb}
 use native.Mathlib.Nat.{le-refl}
 use native.Mathlib.Omega.{arith}
-use borrow.Author.Tests.{eqb-true, eq-eqb, ne-eqb, ltb-true, ltb-false, lt-ltb}
+use borrow.Author.Tests.{eq-eqb, ne-eqb, ltb-true, ltb-false, lt-ltb}
 use Rattle.basics.specs.Lists.{allIn, member, distinct, keeps}
 use Rattle.basics.specs.Bytes.{same}
 use Rattle.basics.proofs.Below.{any-of}
@@ -20,10 +20,11 @@ use Rattle.basics.proofs.Each.{each-none, each-cons}
 use Rattle.basics.proofs.Says.{eqb-says, and-says, both-says}
 use Rattle.rules.specs.declared.Record.{Record}
 use Rattle.rules.specs.Sizes.{Size}
-use Rattle.rules.specs.Daylog.{judged-read-kind, kind-commits, kind-judged-read}
+use Rattle.rules.specs.Kinds.{kind-commits, kind-judged-read}
 use Rattle.rules.specs.Layout.{walks, EachRecord}
 use Rattle.rules.specs.Day.{Event, whose, event, events, is-transaction, commit-of, wrote-cell, day-real-time, day-write-write, day-write-read, day-read-write, day-before}
 use Rattle.rules.specs.Checker.{lists-company, carried, reads-carried}
+use Rattle.rules.proofs.KindLaws.{reads-commit-nothing}
 use Rattle.rules.proofs.Day.{event-unique}
 use Rattle.rules.proofs.InTime.{committed-cell, table-by, reads-in-time}
 use Rattle.rules.proofs.Commits.{commit-event}
@@ -73,11 +74,6 @@ module _ (z : Size) (es : List Event) (k m c : ℕ) (other : k ≡ m → ⊥) wh
       (rw (a .0) (any-in-of read-before es i right)))))
 
 -- ---- what a list carries
-
--- a judged read commits nothing
-reads-commit-nothing : (k : ℕ) → kind-judged-read k ≡ true → kind-commits k ≡ false
-unfolding kind-judged-read kind-commits
-reads-commit-nothing k h = ap kind-commits (eqb-true k judged-read-kind h)
 
 module _ (z : Size) (opening : List ℕ) (day : List Record) (w : walks z day ≡ true) where
   -- the pairs of the day

@@ -12,9 +12,9 @@ use Rattle.basics.proofs.Regrouped.{four-across, one-behind}
 use Rattle.basics.proofs.Lists.{all-in-at, all-in-of}
 use Rattle.rules.specs.declared.Record.{Record}
 use Rattle.rules.specs.Sizes.{Size}
-use Rattle.rules.specs.Daylog.{kind-judged-read, kind-own-read}
+use Rattle.rules.specs.Kinds.{kind-judged-read, kind-own-read, kind-sets-moment}
 use Rattle.rules.specs.Layout.{walks}
-use Rattle.rules.specs.Day.{Event, events, is-transaction, written-value, company-of, day-before, sets-moment}
+use Rattle.rules.specs.Day.{Event, events, is-transaction, written-value, company-of, day-before}
 use Rattle.rules.specs.Checker.{lists-company, own-reads-right, accepted}
 use Rattle.rules.proofs.InTime.{arises, pairs-in-time, table-by, reads-in-time, has-stranger, no-stranger, in-company, step-right, replays, accepted-in-time}
 use Rattle.rules.proofs.CompanyInTime.{company-told}
@@ -31,7 +31,7 @@ module _ (z : Size) (opening : List ℕ) (t : ℕ) (order : List ℕ) where
   replays-told (e ∷ earlier) =
       ap (λ b. b && step-right z opening t order earlier e) (replays-told earlier)
       ∙ four-across (no-stranger t order earlier) (pairs-in-time z order earlier) (reads-in-time opening order earlier) (own-reads-right order earlier)
-      (cond (eqb (e .who) t && sets-moment (e .kind)) (not (has-stranger order earlier)) true)
+      (cond (eqb (e .who) t && kind-sets-moment (e .kind)) (not (has-stranger order earlier)) true)
       (keeps (λ k m. eqb (e .who) m && arises z earlier e k) order)
       (cond (member (e .who) order && kind-judged-read (e .kind)) (same (e .value) (table-by opening order earlier (e .cell))) true)
       (cond (member (e .who) order && kind-own-read (e .kind)) (same (e .value) (written-value earlier (e .who) (e .cell))) true)

@@ -28,7 +28,8 @@ use Rattle.rules.proofs.Day.{who-transaction}
 use Rattle.rules.proofs.EachCall.{AskedOf, EachOutcome, each-call}
 use Rattle.rules.proofs.Explained.{Explained, explained-new, explained-more}
 use Rattle.rules.proofs.Handles.{place-of-below}
-use Rattle.rules.proofs.JudgedStep.{allowed, frees-only, JudgedStep, judged-step}
+use Rattle.rules.proofs.JudgedStep.{allowed, JudgedStep, judged-step}
+use Rattle.rules.proofs.KindLaws.{frees-only}
 use Rattle.rules.proofs.Judging.{given-orders}
 use Rattle.rules.proofs.Mirror.{Mirrored, Valued}
 use Rattle.rules.proofs.Mirrored.{mirrored-new, mirrored-judged, mirrored-each}

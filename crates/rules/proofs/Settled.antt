@@ -11,16 +11,16 @@ use lib.Dec.{eqb}
 use native.Mathlib.Omega.{arith}
 use borrow.Author.Tests.{ne-eqb}
 use Rattle.basics.specs.Lists.{anyIn}
-use Rattle.basics.proofs.Bools.{or-left}
 use Rattle.basics.proofs.Each.{each-none, each-cons}
 use Rattle.basics.proofs.Lists.{any-in-at}
-use Rattle.basics.proofs.Says.{eqb-says, and-says, or-says}
+use Rattle.basics.proofs.Says.{eqb-says, and-says}
 use Rattle.rules.specs.declared.Record.{Record}
 use Rattle.rules.specs.Sizes.{Size}
-use Rattle.rules.specs.Daylog.{judged-read-kind, write-kind, post-kind, kind-commits, kind-writes, kind-judged-read, kind-has-value, kind-has-cell}
+use Rattle.rules.specs.Kinds.{kind-commits, kind-writes, kind-judged-read, kind-has-cell}
 use Rattle.rules.specs.Layout.{walks, EachRecord}
 use Rattle.rules.specs.Day.{Event, event, events, latest, commit-of, committed, wrote-cell, written-value}
 use Rattle.rules.specs.History.{EachEvent}
+use Rattle.rules.proofs.KindLaws.{reads-have-cell, writes-have-cell}
 use Rattle.rules.proofs.Seats.{walks-earlier}
 use Rattle.rules.proofs.Day.{event-cases, event-in, number-bounds, event-unique}
 use Rattle.rules.proofs.Commits.{commits-last, commit-event, committed-by, committed-ends}
@@ -60,15 +60,6 @@ each-event P (r ∷ earlier) =
     (Iff·trans (Iff·and Iff·rfl (each-event P earlier)) (Iff·symm (each-cons (λ before s. P (events before) (event before s)) r earlier)))
 
 -- ---- the cells of events
-
--- a judged read uses its cell, and so does a write
-reads-have-cell : (k : ℕ) → kind-judged-read k ≡ true → kind-has-cell k ≡ true
-unfolding kind-judged-read kind-has-value kind-has-cell
-reads-have-cell k j = or-left (kind-has-value k) _ (or-left (eqb k judged-read-kind) _ j)
-
-writes-have-cell : (k : ℕ) → kind-writes k ≡ true → kind-has-cell k ≡ true
-unfolding kind-writes kind-has-cell kind-has-value
-writes-have-cell k w = ⊎-elim (ap kind-has-cell) (ap kind-has-cell) (or-says (eqb-says k write-kind) (eqb-says k post-kind) .0 w)
 
 -- a cell that an event uses is a cell of the table
 module _ (z : Size) (day : List Record) (w : walks z day ≡ true) where

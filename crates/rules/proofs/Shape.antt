@@ -16,6 +16,9 @@ use Rattle.rules.specs.Books.{Books, Shaped, place-at, no-place, freed, 
 pub yard-within : Within yard
 yard-within = record { places = omega arith; cells = omega arith }
 
+pub size-within : {z : Size} → z ≡ yard → Within z
+size-within size = subst Within (sym size) yard-within
+
 -- ---- one place
 
 -- a place's three lists are as wide as they are declared

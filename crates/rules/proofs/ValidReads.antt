@@ -14,7 +14,7 @@ use Rattle.basics.proofs.Says.{eqb-says, and-says}
 use Rattle.rules.specs.declared.Record.{Record}
 use Rattle.rules.specs.Sizes.{Size}
 use Rattle.rules.specs.Cells.{cell-of}
-use Rattle.rules.specs.Daylog.{kind-commits, kind-writes, kind-judged-read}
+use Rattle.rules.specs.Kinds.{kind-commits, kind-writes, kind-judged-read}
 use Rattle.rules.specs.Layout.{walks}
 use Rattle.rules.specs.Day.{Event, event, events, is-transaction, wrote-cell, written-value, company-of}
 use Rattle.rules.specs.Checker.{accepted}

@@ -17,7 +17,8 @@ use Rattle.rules.specs.Kept.{LiveCaller, BeginAsked}
 use Rattle.rules.specs.Run.{Machine, new-day, moved-on, after-call}
 use Rattle.rules.specs.Runs.{Starts, value-taken}
 use Rattle.rules.proofs.EachCall.{AskedOf, EachOutcome}
-use Rattle.rules.proofs.JudgedStep.{frees-only, judged-step}
+use Rattle.rules.proofs.JudgedStep.{judged-step}
+use Rattle.rules.proofs.KindLaws.{frees-only}
 use Rattle.rules.proofs.Mirror.{Mirrored, Valued}
 use Rattle.rules.proofs.DayGrows.{NobodyLive, nobody-opened, nobody-closed, nobody-at-start, valued-new-day, reads-nothing, valued-quiet, stays-freed, stays-begun, changed-one, zeros-in-bytes, proper-at, begun-turn}
 use Rattle.rules.proofs.CellsRead.{valued-read, valued-own-read}

@@ -9,7 +9,8 @@ use Rattle.basics.specs.Bytes.{same}
 use Rattle.rules.specs.Sizes.{Size, table-bytes}
 use Rattle.rules.specs.Numbers.{lent, bad-log, unknown, no-order, _if_, first-reason, wrong}
 use Rattle.rules.specs.Cells.{cell-of}
-use Rattle.rules.specs.Daylog.{kind-starts, kind-judged-read, kind-own-read, records-in, day-of}
+use Rattle.rules.specs.Kinds.{kind-starts, kind-judged-read, kind-own-read}
+use Rattle.rules.specs.Daylog.{records-in, day-of}
 use Rattle.rules.specs.Layout.{well-laid-out}
 use Rattle.rules.specs.Day.{Event, events, is-transaction, committed, wrote-cell, written-value, company-of, day-before}
 

@@ -14,7 +14,7 @@ use Rattle.rules.specs.Judging.{has-cycle}
 use Rattle.rules.specs.Numbers.{granted, first-reason}
 use Rattle.rules.specs.State.{State, log-after, adds, shown-bytes, Outcome, state-of}
 use Rattle.rules.specs.Calls.{Call, Read, Show, Close, Lending, issued}
-use Rattle.rules.specs.Daylog.{commit-total, day-bytes, standing, day-of}
+use Rattle.rules.specs.Daylog.{commit-total, commits-in, day-bytes, standing}
 use Rattle.rules.specs.Run.{Machine, outcome, new-day, after-call, fresh}
 use Rattle.rules.specs.Steps.{begin-reasons, write-reasons, read-reasons, show-reasons, commit-reasons, give-up-reasons, post-reasons, order-reasons, close-reasons, open-rule, begin-rule, write-rule, read-rule, show-rule, commit-rule, give-up-rule, post-rule, order-rule, close-rule}
 
@@ -189,7 +189,7 @@ pub record Unlent : Type 0 where
 
 -- what a call on the machine is lent, by the lent log's bytes and the length of the order buffer
 abbrev pub lent-with : List ℕ → ℕ → Machine → Lending
-lent-with log buffer m = record { log = length log; buffer = buffer; total = commit-total (day-of log (m .state .books .records)) }
+lent-with log buffer m = record { log = length log; buffer = buffer; total = commits-in log (m .state .books .records) }
 
 -- the log holds the day: as many records as the books count, in their order, in the bytes in use
 pub record Joined (m : Machine) (log : List ℕ) : Type 0 where
@@ -204,7 +204,7 @@ pub record LogJoinsDay : Type 0 where
   pub new : (s : State) (log : List ℕ) → s .books .records ≡ 0 → length log ≡ log-bytes → Joined (new-day s) log
   pub fresh-books : (z : Size) (log : List ℕ) → length log ≡ log-bytes → Joined (fresh z) log
   -- the commits and posts among the log's records are the day's, so a call that is lent the log meets the machine's own outcome
-  pub total : (m : Machine) (log : List ℕ) → Joined m log → commit-total (day-of log (m .state .books .records)) ≡ commit-total (m .day)
+  pub total : (m : Machine) (log : List ℕ) → Joined m log → commits-in log (m .state .books .records) ≡ commit-total (m .day)
   pub own-outcome : (z : Size) (c : Call) (m : Machine) (log : List ℕ) → Joined m log
       → issued z (lent-with log (order-numbers z) m) c (m .state) ≡ outcome z c m
   -- the log after a call is joined to the machine after it, whatever the call and the lengths of table, drafts and buffer

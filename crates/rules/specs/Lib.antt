@@ -9,6 +9,7 @@ pub mod Handles
 pub mod History
 pub mod Judging
 pub mod Kept
+pub mod Kinds
 pub mod Layout
 pub mod Numbers
 pub mod Report

@@ -7,7 +7,8 @@ use lib.Dec.{ltb}
 use Rattle.basics.specs.Text.{text, decimal}
 use Rattle.rules.specs.Sizes.{Size, table-bytes}
 use Rattle.rules.specs.Numbers.{lent, bad-log}
-use Rattle.rules.specs.Daylog.{kind-starts, records-in, day-of, commit-total}
+use Rattle.rules.specs.Kinds.{kind-starts}
+use Rattle.rules.specs.Daylog.{commits-in, records-in, day-of}
 use Rattle.rules.specs.Layout.{well-laid-out}
 use Rattle.rules.specs.Day.{Event, events, moment-of, Standing, stands-live, stands-committed, stands-gaveup, stands-conflict, stands-post, stands}
 
@@ -43,9 +44,8 @@ transaction-lines all (e ∷ earlier) =
 unfoldable pub log-report : List ℕ → List ℕ
 log-report log =
     let n = records-in log in
-    let day = day-of log n in
-    let es = events day in
-    first-line n (commit-total day) ++ transaction-lines es es
+    let es = events (day-of log n) in
+    first-line n (commits-in log n) ++ transaction-lines es es
 
 -- on input that is refused: `refused` and the number
 unfoldable pub refused-line : ℕ → List ℕ

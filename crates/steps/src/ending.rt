@@ -4,7 +4,7 @@ ghost use mathlib.Core.List.{[]};
 ghost use lib.ListN.{length};
 ghost use Rattle.rules.specs.Sizes.{Within};
 ghost use Rattle.rules.specs.Books.{books-of};
-ghost use Rattle.rules.specs.Daylog.{commit-total, day-of};
+ghost use Rattle.rules.specs.Daylog.{commits-in};
 ghost use Rattle.rules.specs.State.{state-of, log-after};
 ghost use Rattle.rules.specs.Steps.{commit-rule, give-up-rule, close-rule};
 ghost use Rattle.recording.specs.Stepped.{step-of};
@@ -73,8 +73,8 @@ pub fn give_up(places: [Place; 32], records: u16, z: Size, handle: u32, log: &mu
 // Close writes the trailer, frees every place and sets records to 0.
 pub fn close(places: [Place; 32], records: u16, z: Size, log: &mut [u8]) -> Step
     requires { ⌜ Within z ⌝ }
-    ensures step { λ r. ⌜ r ≡ step-of (close-rule z (length (now (log .entry))) (commit-total (day-of (now (log .entry)) records)) (state-of (books-of records places) [] [])) ⌝ }
-    ensures log { λ r. ⌜ now (log .exit) ≡ log-after records (close-rule z (length (now (log .entry))) (commit-total (day-of (now (log .entry)) records)) (state-of (books-of records places) [] []) .entry) (now (log .entry)) ⌝ }
+    ensures step { λ r. ⌜ r ≡ step-of (close-rule z (length (now (log .entry))) (commits-in (now (log .entry)) records) (state-of (books-of records places) [] [])) ⌝ }
+    ensures log { λ r. ⌜ now (log .exit) ≡ log-after records (close-rule z (length (now (log .entry))) (commits-in (now (log .entry)) records) (state-of (books-of records places) [] []) .entry) (now (log .entry)) ⌝ }
 {
     let number = asked::of_close(places, records, z, log.len());
     if number != GRANTED {

@@ -12,7 +12,7 @@ use Rattle.basics.proofs.Bytes.{splice-length}
 use Rattle.rules.specs.declared.Size.{Size}
 use Rattle.rules.specs.Sizes.{yard, order-numbers}
 use Rattle.rules.specs.Numbers.{granted}
-use Rattle.rules.specs.Daylog.{commit-total, day-of}
+use Rattle.rules.specs.Daylog.{commits-in}
 use Rattle.rules.specs.State.{State, Outcome, state-of, log-after, buffer-after}
 use Rattle.rules.specs.Calls.{Call, Open, Begin, Write, Read, Show, Commit, GiveUp, Post, Order, Close, issued, IsJudged, read-judged, commit-judged}
 use Rattle.rules.specs.Steps.{Judged, open-rule}
@@ -89,7 +89,7 @@ module _ (k : Known) (follows : Follows k) where
   -- what the call is issued on is lent as the machine lends it
   lent-same : (c : Call) → issued yard (lent-to (held .books) (held .log) (held .numbers)) c (m .state) ≡ outcome yard c m
   lent-same c =
-      ap (λ n. issued yard (record { log = length (held .log); buffer = n; total = commit-total (day-of (held .log) (held .books .records)) }) c (m .state)) (follows .numbers)
+      ap (λ n. issued yard (record { log = length (held .log); buffer = n; total = commits-in (held .log) (held .books .records) }) c (m .state)) (follows .numbers)
       ∙ log-joins-day .own-outcome yard c m (held .log) (follows .joined)
 
   module _ (c : Call) (bytes : AreBytes (value-taken c)) (number answer : ℕ) (shown : List ℕ) (after : Held) (behind : ShownBehind c number after shown) where

@@ -11,7 +11,7 @@ use Rattle.rules.specs.declared.Record.{Record}
 use Rattle.rules.specs.Sizes.{yard, table-bytes, drafts-bytes, log-bytes, order-numbers, record-bytes}
 use Rattle.rules.specs.Books.{opened}
 use Rattle.rules.specs.Numbers.{granted}
-use Rattle.rules.specs.Daylog.{commit-total, trailer, day-of}
+use Rattle.rules.specs.Daylog.{trailer, commits-in}
 use Rattle.rules.specs.State.{shown-bytes}
 use Rattle.rules.specs.Calls.{Call, Open, Begin, Write, Read, Show, Commit, GiveUp, Post, Order, Close}
 use Rattle.rules.specs.Runs.{DayStarts, value-taken, told}
@@ -36,7 +36,7 @@ pub record Held : Type 0 where
 unfoldable pub as-it-stands : Held → List ℕ
 as-it-stands k =
     let records = k .books .records in
-    part 0 (record-bytes * records) (k .log) ++ trailer records (commit-total (day-of (k .log) records))
+    part 0 (record-bytes * records) (k .log) ++ trailer records (commits-in (k .log) records)
 
 -- held after a call: the new books, and the table, drafts, log and numbers as the call left them
 abbrev pub with-log : Held → Books → List ℕ → Held

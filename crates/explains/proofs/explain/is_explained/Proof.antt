@@ -1,5 +1,5 @@
--- `explains::explain::is_explained` meets its contract, kind by kind. Assumes nothing.
-use mathlib.Core.Path.{_∙_, ap}
+-- `explains::explain::is_explained` meets its contract, by what the kind is. Assumes nothing.
+use mathlib.Core.Path.{sym, _∙_, ap}
 use mathlib.Core.Bool.{not}
 use borrow.Author.Needs.{needs}
 use Rattle.explains.proofs.Explaining.{late-explained, judged-explained, kept-explained, other-explained}
@@ -15,30 +15,41 @@ sets-moment-requires c κs = search needs
 returns : tie.Need-returns
 returns c = late-explained _ _ _ _ _ _ _ _ _ (c .before .sets-moment .ensures) (c .if1 .taken)
 
+is-judged-read-requires : tie.Need-is-judged-read-requires
+is-judged-read-requires c κs = search needs
+
 is-read-explained-requires : tie.Need-is-read-explained-requires
 is-read-explained-requires c κs =
     let start = c .before .before .before .before .before .before .before in
     let asked = start .pre .1 .1 in
-    (start .pre .0, (start .pre .1 .0 .0, (search needs, (search needs, (asked .1 .0 .judged-read (c .if2 .taken), search needs)))))
+    let judged = sym (c .before .is-judged-read .ensures) ∙ c .if2 .taken in
+    (start .pre .0, (start .pre .1 .0 .0, (search needs, (search needs, (asked .1 .0 .judged-read judged, search needs)))))
 
 returns-2 : tie.Need-returns-2
 returns-2 c =
-    let late = c .before .before .before in
+    let read = c .before in
+    let late = read .before .before in
     c .is-read-explained .ensures
-    ∙ judged-explained _ _ _ _ _ _ _ _ _ (late .before .sets-moment .ensures) (late .if1 .left) (c .before .if2 .taken)
+    ∙ judged-explained _ _ _ _ _ _ _ _ _ (late .before .sets-moment .ensures) (late .if1 .left) (sym (read .before .is-judged-read .ensures) ∙ read .if2 .taken)
+
+is-own-read-requires : tie.Need-is-own-read-requires
+is-own-read-requires c κs = search needs
 
 is-own-explained-requires : tie.Need-is-own-explained-requires
 is-own-explained-requires c κs =
     let start = c .before .before .before .before .before .before .before .before .before in
     let asked = start .pre .1 .1 in
-    (start .pre .0, (start .pre .1 .0 .1, (search needs, (search needs, (asked .1 .0 .own-read (c .if3 .taken), search needs)))))
+    let own = sym (c .before .is-own-read .ensures) ∙ c .if3 .taken in
+    (start .pre .0, (start .pre .1 .0 .1, (search needs, (search needs, (asked .1 .0 .own-read own, search needs)))))
 
 returns-3 : tie.Need-returns-3
 returns-3 c =
-    let not-judged = c .before .before .before in
+    let read = c .before in
+    let not-judged = read .before .before in
     let late = not-judged .before .before in
     c .is-own-explained .ensures
-    ∙ kept-explained _ _ _ _ _ _ _ _ _ (late .before .sets-moment .ensures) (late .if1 .left) (not-judged .if2 .left) (c .before .if3 .taken)
+    ∙ kept-explained _ _ _ _ _ _ _ _ _ (late .before .sets-moment .ensures) (late .if1 .left) (sym (not-judged .before .is-judged-read .ensures) ∙ not-judged .if2 .left)
+    (sym (read .before .is-own-read .ensures) ∙ read .if3 .taken)
 
 is-overtaken-requires : tie.Need-is-overtaken-requires
 is-overtaken-requires c κs = search needs
@@ -49,7 +60,8 @@ returns-4 c =
     let not-judged = not-own .before .before in
     let late = not-judged .before .before in
     ap not (c .is-overtaken .ensures)
-    ∙ other-explained _ _ _ _ _ _ _ _ _ (late .before .sets-moment .ensures) (late .if1 .left) (not-judged .if2 .left) (not-own .if3 .left)
+    ∙ other-explained _ _ _ _ _ _ _ _ _ (late .before .sets-moment .ensures) (late .if1 .left) (sym (not-judged .before .is-judged-read .ensures) ∙ not-judged .if2 .left)
+    (sym (not-own .before .is-own-read .ensures) ∙ not-own .if3 .left)
 
 pub is-explained-spec : {M : Type 1} → statement M
 is-explained-spec =
@@ -58,8 +70,10 @@ is-explained-spec =
     cast-cell
     sets-moment-requires
     returns
+    is-judged-read-requires
     is-read-explained-requires
     returns-2
+    is-own-read-requires
     is-own-explained-requires
     returns-3
     is-overtaken-requires

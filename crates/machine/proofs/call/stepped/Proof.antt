@@ -3,7 +3,7 @@ use denote.Ref.{now}
 use mathlib.Core.Path.{refl}
 use lib.ListN.{length}
 use Rattle.rules.specs.Sizes.{yard}
-use Rattle.rules.specs.Daylog.{commit-total, day-of}
+use Rattle.rules.specs.Daylog.{commits-in}
 use Rattle.rules.specs.State.{state-of}
 use Rattle.rules.specs.Calls.{issued}
 use Rattle.rules.specs.Calls as rule
@@ -177,7 +177,7 @@ unfolding issued
 returns-10 c =
     let a = c .before .before .before .before .before .before .before .before .before .before .before .args in
     told (a .from) (now (a .table)) (now (a .drafts)) (now (a .log)) (now (a .numbers)) (a .call) (now (a .value)) (c .before .before .before .before .enum-told10 .given .1)
-    (neither-left (a .from) (now (a .table)) (now (a .drafts)) (now (a .log)) (now (a .numbers)) rule.Close refl (unlent .of-close yard (length (now (a .log))) (commit-total (day-of (now (a .log)) (a .from .records))) (state-of (view (a .from)) (now (a .table)) (now (a .drafts)))) (c .before .before .close .ensures))
+    (neither-left (a .from) (now (a .table)) (now (a .drafts)) (now (a .log)) (now (a .numbers)) rule.Close refl (unlent .of-close yard (length (now (a .log))) (commits-in (now (a .log)) (a .from .records)) (state-of (view (a .from)) (now (a .table)) (now (a .drafts)))) (c .before .before .close .ensures))
 
 pub stepped-spec : {M : Type 1} → statement M
 stepped-spec =

@@ -2,7 +2,7 @@
 use denote.Ref.{now}
 use lib.ListN.{length}
 use mathlib.Core.List.{[]}
-use Rattle.rules.specs.Daylog.{commit-total, day-of}
+use Rattle.rules.specs.Daylog.{commits-in}
 use Rattle.rules.specs.State.{state-of}
 use Rattle.rules.specs.Steps.{close-rule}
 use Rattle.machine.specs.View.{view}
@@ -27,7 +27,7 @@ same-length c = search needs
 returns : tie.Need-returns
 returns c =
     let a = c .before .before .before .before .before .before .before .before .args in
-    handed-back (LogIs (a .self .records) (now (a .log)) _) (λ z. close-rule z (length (now (a .log))) (commit-total (day-of (now (a .log)) (a .self .records))) (state-of (view (a .self)) [] [])) (c .before .before .before .before .before .yard-size .ensures) (c .handed .ensures) (c .before .before .before .close .ensures)
+    handed-back (LogIs (a .self .records) (now (a .log)) _) (λ z. close-rule z (length (now (a .log))) (commits-in (now (a .log)) (a .self .records)) (state-of (view (a .self)) [] [])) (c .before .before .before .before .before .yard-size .ensures) (c .handed .ensures) (c .before .before .before .close .ensures)
 
 pub close-spec : {M : Type 1} → statement M
 close-spec =
