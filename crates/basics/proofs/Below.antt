@@ -273,6 +273,10 @@ module _ {ℓ} {A : Type ℓ} where
   pub run-next : (f : ℕ → A → A) (n : ℕ) (first : A) {now after : A} → now ≡ runBelow f n first → after ≡ f n now → after ≡ runBelow f (n + 1) first
   run-next f n first so-far step = step ∙ ap (f n) so-far ∙ sym (run-more f n first)
 
+  -- a run that has come to its limit
+  pub run-whole : (f : ℕ → A → A) (n limit : ℕ) (first : A) {now : A} → now ≡ runBelow f n first → n ≡ limit → now ≡ runBelow f limit first
+  run-whole f n limit first so-far end = so-far ∙ ap (λ (k : ℕ). runBelow f k first) end
+
   pub run-cong : (f g : ℕ → A → A) (n : ℕ) (a : A) → ((i : ℕ) → i < n → (b : A) → f i b ≡ g i b) → runBelow f n a ≡ runBelow g n a
   unfolding runBelow
   run-cong f g zero a h = refl
