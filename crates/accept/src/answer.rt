@@ -2,28 +2,35 @@
 ghost use mathlib.Core.Path.{_≡_};
 ghost use Prim.Native.Nat.{_≤_};
 ghost use lib.ListN.{length, take, drop};
-ghost use Rattle.rules.specs.Sizes.{yard};
+ghost use Rattle.rules.specs.Sizes.{yard, table-bytes};
 ghost use Rattle.rules.specs.Checker.{checked};
 ghost use Rattle.accept.specs.Listed.{Roomy, answer-line};
 use crate::list::Numbers;
 use checker::proposal;
+use rules::numbers;
+use rules::sizes;
 use texts::buffer;
 use texts::refusal;
 
 // The checker's number: 1 if what was read is less than an opening table.
 fn of_day(input: &[u8], begin: u32, order: &[u16]) -> u8
-    ensures { λ r. ⌜ r ≡ checked yard (take 256 (now (input .entry))) (drop 256 (now (input .entry))) begin (now (order .entry)) ⌝ }
+    ensures { λ r. ⌜ r ≡ checked yard (take (table-bytes yard) (now (input .entry))) (drop (table-bytes yard) (now (input .entry))) begin (now (order .entry)) ⌝ }
 {
-    if input.len() < 256 {
-        return 1;
+    if input.len() < sizes::TABLE_BYTES {
+        return numbers::LENT;
     }
-    proposal::checked(&input[..256], &input[256..], begin, order)
+    proposal::checked(
+        &input[..sizes::TABLE_BYTES],
+        &input[sizes::TABLE_BYTES..],
+        begin,
+        order,
+    )
 }
 
 // The same for the numbers that are kept.
 pub fn checked(input: &[u8], begin: u32, numbers: Numbers) -> u8
     requires { ⌜ Roomy numbers ⌝ }
-    ensures { λ r. ⌜ r ≡ checked yard (take 256 (now (input .entry))) (drop 256 (now (input .entry))) begin (take (numbers .count) (numbers .kept)) ⌝ }
+    ensures { λ r. ⌜ r ≡ checked yard (take (table-bytes yard) (now (input .entry))) (drop (table-bytes yard) (now (input .entry))) begin (take (numbers .count) (numbers .kept)) ⌝ }
 {
     let kept = numbers.kept;
     let count = numbers.count;
@@ -35,7 +42,7 @@ pub fn line(out: &mut [u8], number: u8) -> usize
     requires { ⌜ 16 ≤ length (now out) ⌝ }
     ensures { λ r. ⌜ take r (now (out .exit)) ≡ answer-line number ⌝ }
 {
-    if number == 0 {
+    if number == numbers::GRANTED {
         return buffer::put(out, 0, b"accepted\n");
     }
     refusal::refused(out, number)

@@ -6,6 +6,8 @@ use crate::print_table;
 use crate::save;
 use machine::books::Answer;
 use machine::books::Books;
+use rules::numbers::GRANTED;
+use rules::sizes;
 use script::lines;
 use script::lines::Line;
 use script::words;
@@ -100,13 +102,13 @@ pub fn play(
         look(kind, content, opening, table, log, books.records);
         return books;
     }
-    let mut numbers = [0u16; 32];
+    let mut numbers = [0u16; sizes::ORDER_NUMBERS];
     let answer = making::make(books, line, content, table, drafts, log, &mut numbers);
     print_answer(line, content, answer, table, drafts, &numbers);
     if kind < lines::CLOSE {
         return answer.books;
     }
-    if answer.number != 0 {
+    if answer.number != GRANTED {
         return answer.books;
     }
     buffer::put(opening, 0, table);
