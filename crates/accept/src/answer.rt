@@ -2,7 +2,7 @@
 ghost use mathlib.Core.Path.{_≡_};
 ghost use Prim.Native.Nat.{_≤_};
 ghost use lib.ListN.{length, take, drop};
-ghost use Rattle.rules.specs.Sizes.{yard};
+ghost use Rattle.rules.specs.Sizes.{yard, table-bytes};
 ghost use Rattle.rules.specs.Checker.{checked};
 ghost use Rattle.accept.specs.Listed.{Roomy, answer-line};
 use crate::list::Numbers;
@@ -14,7 +14,7 @@ use texts::refusal;
 
 // The checker's number: 1 if what was read is less than an opening table.
 fn of_day(input: &[u8], begin: u32, order: &[u16]) -> u8
-    ensures { λ r. ⌜ r ≡ checked yard (take 256 (now (input .entry))) (drop 256 (now (input .entry))) begin (now (order .entry)) ⌝ }
+    ensures { λ r. ⌜ r ≡ checked yard (take (table-bytes yard) (now (input .entry))) (drop (table-bytes yard) (now (input .entry))) begin (now (order .entry)) ⌝ }
 {
     if input.len() < sizes::TABLE_BYTES {
         return numbers::LENT;
@@ -30,7 +30,7 @@ fn of_day(input: &[u8], begin: u32, order: &[u16]) -> u8
 // The same for the numbers that are kept.
 pub fn checked(input: &[u8], begin: u32, numbers: Numbers) -> u8
     requires { ⌜ Roomy numbers ⌝ }
-    ensures { λ r. ⌜ r ≡ checked yard (take 256 (now (input .entry))) (drop 256 (now (input .entry))) begin (take (numbers .count) (numbers .kept)) ⌝ }
+    ensures { λ r. ⌜ r ≡ checked yard (take (table-bytes yard) (now (input .entry))) (drop (table-bytes yard) (now (input .entry))) begin (take (numbers .count) (numbers .kept)) ⌝ }
 {
     let kept = numbers.kept;
     let count = numbers.count;

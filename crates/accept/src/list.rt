@@ -3,12 +3,15 @@ ghost use mathlib.Core.Path.{_≡_};
 ghost use Prim.Native.Nat.{_≤_};
 ghost use Rattle.script.specs.Numeral.{no-number};
 ghost use Rattle.accept.specs.Listed.{word-number, Roomy, none-listed, with-number};
+use rules::sizes;
 use script::numbers;
 
-// The first 33 numbers, how many they are, and whether every word so far is a number. More than 32 numbers are never accepted, so the
-// first 33 tell as much as all.
+// More than 32 numbers are never accepted, so the first 33 tell as much as all.
+pub const MOST_KEPT: usize = sizes::ORDER_NUMBERS + 1;
+
+// The first numbers, how many they are, and whether every word so far is a number.
 pub struct Numbers {
-    pub kept: [u16; 33],
+    pub kept: [u16; MOST_KEPT],
     pub count: usize,
     pub right: bool,
 }
@@ -29,7 +32,7 @@ pub fn none() -> Numbers
     ensures { λ r. ⌜ (r ≡ none-listed) × Roomy r ⌝ }
 {
     Numbers {
-        kept: [0; 33],
+        kept: [0; MOST_KEPT],
         count: 0,
         right: true,
     }
@@ -46,7 +49,7 @@ pub fn with(from: Numbers, n: u64) -> Numbers
         return next;
     }
     let at = from.count;
-    if at < 33 {
+    if at < MOST_KEPT {
         next.kept[at] = n as u16;
         next.count = at + 1;
     }

@@ -6,7 +6,8 @@ ghost use Rattle.accept.specs.Listed.{Roomy};
 use libc::STDIN_FILENO;
 use libc::STDOUT_FILENO;
 use list::Numbers;
-use rules::numbers;
+use rules::numbers::LENT;
+use rules::sizes;
 use texts::buffer;
 
 // The number that an argument names; none for an argument that is missing or has more than 4,096 bytes.
@@ -35,7 +36,7 @@ fn order() -> Numbers
 fn ask(begin: u32, numbers: Numbers) -> u8
     requires { ⌜ Roomy numbers ⌝ }
 {
-    let mut input = [0u8; 64273];
+    let mut input = [0u8; sizes::TABLE_BYTES + sizes::LOG_BYTES + 1];
     let n = io::read_full(STDIN_FILENO, &mut input);
     answer::checked(&input[..n], begin, numbers)
 }
@@ -45,10 +46,10 @@ fn decide() -> u8 {
     let begin = number_at(1, 4294967295);
     let numbers = order();
     if begin > 4294967295 {
-        return numbers::LENT;
+        return LENT;
     }
     if !numbers.right {
-        return numbers::LENT;
+        return LENT;
     }
     ask(begin as u32, numbers)
 }

@@ -1,14 +1,15 @@
 -- Laws of the tests, counts and runs over the numbers below a limit. Assumes nothing.
 use mathlib.Core.Path.{_≡_, refl, sym, _∙_, ap, ap₂, subst}
-use mathlib.Core.Logic.{_⊎_, inl, inr, ⊎-elim}
+use mathlib.Core.Logic.{⊎-elim}
 use mathlib.Core.Bool.{Bool, true, false, cond, _&&_, _||_, true≢false, false≢true}
 use Prim.Native.Nat.{ℕ, zero, suc, _+_, _<_, _≤_, max}
 use native.Mathlib.Nat.{not-suc-le-zero, le-refl}
-use native.Mathlib.Decide.{decLe}
 use native.Mathlib.Numerals.{add-one}
 use native.Mathlib.Omega.{arith}
+use lib.Dec.{eqb}
+use borrow.Author.Tests.{eqb-true, eq-eqb}
 use Rattle.basics.specs.Below.{allBelow, anyBelow, countBelow, greatestBelow, runBelow}
-use Rattle.basics.proofs.Bools.{split, clash, false-of-not, true-of-not, and-left, and-right, and-both, and-false, or-true, or-left, or-right, or-fails, below-more}
+use Rattle.basics.proofs.Bools.{split, clash, false-of-not, true-of-not, same-tests, and-left, and-right, and-both, and-false, or-true, or-left, or-right, or-fails, below-more}
 
 -- two functions agree below a limit
 abbrev pub Agree {ℓ} : {A : Type ℓ} → ℕ → (ℕ → A) → (ℕ → A) → Type ℓ
@@ -176,8 +177,55 @@ module _ (p q : ℕ → Bool) where
       (λ k. let rest = count-changed n i k (λ j m. same j (omega arith)) in let here = same n (le-refl (suc n)) (λ e. omega arith) in rw here (omega arith))
       (λ last. let rest = count-cong n (λ j m. same j (omega arith) (λ e. omega arith)) in rw (rest, last) (omega arith))
 
+  -- some number passes one of two tests
+  pub any-or : (n : ℕ) → anyBelow (λ i. p i || q i) n ≡ anyBelow p n || anyBelow q n
+  any-or n =
+      same-tests (anyBelow (λ i. p i || q i) n) (anyBelow p n || anyBelow q n)
+      (λ t.
+      let x = any-at (λ i. p i || q i) n t in
+      ⊎-elim (λ a. or-left (anyBelow p n) (anyBelow q n) (any-of p n (x .0) (x .1) a)) (λ b. or-right (anyBelow p n) (anyBelow q n) (any-of q n (x .0) (x .1) b))
+      (or-true (p (x .0)) (q (x .0)) (x .2)))
+      (λ t.
+      ⊎-elim (λ a. let x = any-at p n a in any-of (λ i. p i || q i) n (x .0) (x .1) (or-left (p (x .0)) (q (x .0)) (x .2)))
+      (λ b. let x = any-at q n b in any-of (λ i. p i || q i) n (x .0) (x .1) (or-right (p (x .0)) (q (x .0)) (x .2)))
+      (or-true (anyBelow p n) (anyBelow q n) t))
+
+-- the one number that is asked for passes
+pub any-only : (p : ℕ → Bool) (n c : ℕ) → c < n → anyBelow (λ d. eqb c d && p d) n ≡ p c
+any-only p n c h =
+    same-tests (anyBelow (λ d. eqb c d && p d) n) (p c)
+    (λ t.
+    let x = any-at (λ d. eqb c d && p d) n t in
+    let d = x .0 in
+    subst (λ (k : ℕ). p k ≡ true) (sym (eqb-true c d (and-left (eqb c d) (p d) (x .2)))) (and-right (eqb c d) (p d) (x .2)))
+    (λ t. any-of (λ d. eqb c d && p d) n c h (and-both (eqb c c) (p c) (eq-eqb c c refl) t))
+
+-- a search made only where b passes is a search for a test that nobody passes where b fails
+pub any-where : (b : Bool) (p : Bool → ℕ → Bool) (n : ℕ) → ((i : ℕ) → p false i ≡ false) → anyBelow (p b) n ≡ b && anyBelow (p true) n
+any-where true p n none = refl
+any-where false p n none = any-fails (p false) n (λ i h. none i)
+
+-- two searches may be made in either order
+exchange-of : (a b : ℕ → Bool) (p : ℕ → ℕ → Bool) (m n : ℕ) → anyBelow (λ i. a i && anyBelow (λ c. b c && p i c) n) m ≡ true
+    → anyBelow (λ c. b c && anyBelow (λ i. a i && p i c) m) n ≡ true
+exchange-of a b p m n t =
+    let x = any-at (λ i. a i && anyBelow (λ c. b c && p i c) n) m t in
+    let i = x .0 in
+    let y = any-at (λ c. b c && p i c) n (and-right (a i) (anyBelow (λ c. b c && p i c) n) (x .2)) in
+    let c = y .0 in
+    any-of (λ d. b d && anyBelow (λ j. a j && p j d) m) n c (y .1)
+    (and-both (b c) (anyBelow (λ j. a j && p j c) m) (and-left (b c) (p i c) (y .2))
+    (any-of (λ j. a j && p j c) m i (x .1)
+    (and-both (a i) (p i c) (and-left (a i) (anyBelow (λ d. b d && p i d) n) (x .2)) (and-right (b c) (p i c) (y .2)))))
+
+pub any-exchange : (a b : ℕ → Bool) (p : ℕ → ℕ → Bool) (m n : ℕ)
+    → anyBelow (λ i. a i && anyBelow (λ c. b c && p i c) n) m ≡ anyBelow (λ c. b c && anyBelow (λ i. a i && p i c) m) n
+any-exchange a b p m n =
+    same-tests (anyBelow (λ i. a i && anyBelow (λ c. b c && p i c) n) m) (anyBelow (λ c. b c && anyBelow (λ i. a i && p i c) m) n)
+    (exchange-of a b p m n) (exchange-of b a (λ c i. p i c) n m)
+
 module _ (f : ℕ → ℕ) where
-  -- the greatest value is at least each, and reached
+  -- the greatest value of none, and with one more: it is taken, or the greatest so far is kept
   pub greatest-none : greatestBelow f 0 ≡ 0
   unfolding greatestBelow
   greatest-none = refl
@@ -186,6 +234,13 @@ module _ (f : ℕ → ℕ) where
   unfolding greatestBelow
   greatest-more n = rw add-one
 
+  pub greatest-taken : (n r x : ℕ) → r ≡ greatestBelow f n → r < f n → x ≡ f n → x ≡ greatestBelow f (n + 1)
+  greatest-taken n r x e h q = omega (arith, greatest-more n)
+
+  pub greatest-kept : (n r x : ℕ) → r ≡ greatestBelow f n → f n ≤ r → x ≡ r → x ≡ greatestBelow f (n + 1)
+  greatest-kept n r x e h q = omega (arith, greatest-more n)
+
+  -- it is at least each, and no more than a bound of all
   pub greatest-at : (n i : ℕ) → i < n → f i ≤ greatestBelow f n
   unfolding greatestBelow
   greatest-at zero i h = absurd (not-suc-le-zero h)
@@ -198,15 +253,6 @@ module _ (f : ℕ → ℕ) where
       let rest = greatest-bounded n b (λ i k. h i (omega arith)) in
       let here = h n (le-refl (suc n)) in
       omega arith
-
-  pub greatest-reached : (n : ℕ) → (greatestBelow f n ≡ 0) ⊎ ((i : ℕ) × (i < n) × (f i ≡ greatestBelow f n))
-  unfolding greatestBelow
-  greatest-reached zero = inl refl
-  greatest-reached (suc n) =
-      elim (decLe (greatestBelow f n) (f n)) [
-        | yes h ↦ inr (n, le-refl (suc n), omega arith)
-        | no h ↦ ⊎-elim (λ z. absurd (h (omega arith))) (λ r. inr (r .0, omega arith, omega (arith, r .2))) (greatest-reached n)
-      ]
 
 pub greatest-cong : (f g : ℕ → ℕ) (n : ℕ) → Agree n f g → greatestBelow f n ≡ greatestBelow g n
 unfolding greatestBelow
@@ -222,6 +268,14 @@ module _ {ℓ} {A : Type ℓ} where
   pub run-more : (f : ℕ → A → A) (n : ℕ) (a : A) → runBelow f (n + 1) a ≡ f n (runBelow f n a)
   unfolding runBelow
   run-more f n a = rw add-one
+
+  -- a run so far, and what its next step makes of it
+  pub run-next : (f : ℕ → A → A) (n : ℕ) (first : A) {now after : A} → now ≡ runBelow f n first → after ≡ f n now → after ≡ runBelow f (n + 1) first
+  run-next f n first so-far step = step ∙ ap (f n) so-far ∙ sym (run-more f n first)
+
+  -- a run that has come to its limit
+  pub run-whole : (f : ℕ → A → A) (n limit : ℕ) (first : A) {now : A} → now ≡ runBelow f n first → n ≡ limit → now ≡ runBelow f limit first
+  run-whole f n limit first so-far end = so-far ∙ ap (λ (k : ℕ). runBelow f k first) end
 
   pub run-cong : (f g : ℕ → A → A) (n : ℕ) (a : A) → ((i : ℕ) → i < n → (b : A) → f i b ≡ g i b) → runBelow f n a ≡ runBelow g n a
   unfolding runBelow

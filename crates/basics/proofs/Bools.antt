@@ -5,6 +5,8 @@ use mathlib.Core.Bool.{Bool, true, false, not, cond, _&&_, _||_, true≢false, f
 use Prim.Native.Nat.{ℕ, suc, _<_}
 use native.Mathlib.Decide.{decLt, ℕ-discrete}
 use native.Mathlib.Omega.{arith}
+use lib.Dec.{eqb}
+use borrow.Author.Tests.{eq-eqb, ne-eqb}
 
 -- a test passes or fails
 pub split {ℓ} : {X : Type ℓ} (b : Bool) → (b ≡ true → X) → (b ≡ false → X) → X
@@ -68,6 +70,11 @@ pub and-when : (a : Bool) {b c : Bool} → (a ≡ true → b ≡ c) → a && b �
 and-when true h = h refl
 and-when false h = refl
 
+-- a test asked with one of two others
+pub and-or : (a b c : Bool) → a && (b || c) ≡ (a && b) || (a && c)
+and-or true b c = refl
+and-or false b c = refl
+
 -- of two tests that do not both pass, one fails
 pub and-false : (a b : Bool) → a && b ≡ false → (a ≡ false) ⊎ (b ≡ false)
 and-false true b e = inr e
@@ -106,6 +113,10 @@ below-more {i} {n} h below last = elim (decLt i n) [ yes k ↦ below k | no k �
 pub equal-or-not {ℓ} : {X : Type ℓ} (a b : ℕ) → (a ≡ b → X) → ((a ≡ b → ⊥) → X) → X
 equal-or-not a b same other = elim (ℕ-discrete a b) [ yes e ↦ same e | no e ↦ other e ]
 
+-- two numbers are compared either way round
+pub eqb-swap : (m n : ℕ) → eqb m n ≡ eqb n m
+eqb-swap m n = equal-or-not m n (λ e. eq-eqb m n e ∙ sym (eq-eqb n m (sym e))) (λ d. ne-eqb m n d ∙ sym (ne-eqb n m (λ e. d (sym e))))
+
 -- the first test passes, and the answer is as the second says
 pub and-second : {a b x : Bool} → a ≡ true → b ≡ x → a && b ≡ x
 and-second p q = rw p q
@@ -114,16 +125,17 @@ and-second p q = rw p q
 pub or-second : {a b x : Bool} → a ≡ false → b ≡ x → a || b ≡ x
 or-second p q = rw p q
 
--- the first test passes, and the answer is its own
-pub or-first : (a b : Bool) {x : Bool} → a ≡ x → x ≡ true → a || b ≡ x
-or-first a b p q = or-left a b (p ∙ q) ∙ sym q
-
 -- a choice once its test is known
 pub cond-passes {ℓ} : {A : Type ℓ} {b : Bool} (x y : A) → b ≡ true → cond b x y ≡ x
 cond-passes x y e = rw e
 
 pub cond-fails {ℓ} : {A : Type ℓ} {b : Bool} (x y : A) → b ≡ false → cond b x y ≡ y
 cond-fails x y e = rw e
+
+-- a choice whose first answer is that it passes
+pub cond-or : (a b : Bool) → cond a true b ≡ a || b
+cond-or true b = refl
+cond-or false b = refl
 
 -- a choice by the contrary of a test
 pub cond-not {ℓ} : {A : Type ℓ} (b : Bool) (x y : A) → cond (not b) y x ≡ cond b x y

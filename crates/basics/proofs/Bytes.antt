@@ -1,7 +1,7 @@
 -- Laws of byte lists: parts and splices, numbers as bytes and back, and the test for equality. Assumes nothing.
 use mathlib.Core.Path.{_≡_, refl, sym, _∙_, ap, ap₂}
 use mathlib.Core.Logic.{_↔_}
-use mathlib.Core.Bool.{true, false≢true}
+use mathlib.Core.Bool.{Bool, true, _&&_, false≢true, and-assoc}
 use mathlib.Core.List.{List, [], _∷_, _++_}
 use Prim.Native.Nat.{ℕ, zero, suc, _+_, _-_, _*_, _/_, _%_, _^_, _<_, _≤_}
 use native.Mathlib.Nat.{pow-suc, div-lt-iff-lt-mul, zero-lt-suc}
@@ -12,7 +12,7 @@ use lib.Seq.{length-take-le, take-append-le, drop-append-le, take-at, drop-at, d
 use borrow.Author.Tests.{eqb-true, eq-eqb, ltb-true, lt-ltb}
 use Rattle.basics.specs.Lists.{allIn}
 use Rattle.basics.specs.Bytes.{AreBytes, part, splice, little, number, same}
-use Rattle.basics.proofs.Bools.{and-left, and-right, and-both}
+use Rattle.basics.proofs.Bools.{same-tests, and-left, and-right, and-both}
 
 -- lists of bytes, made and taken apart
 pub bytes-nil : AreBytes []
@@ -107,6 +107,11 @@ pub part-length : (at n : ℕ) (xs : List ℕ) → at + n ≤ length xs → leng
 unfolding part
 part-length at n xs h = simp (length-take, length-drop) (omega arith)
 
+-- the part from a place to another
+pub part-between : (from to n : ℕ) (xs : List ℕ) → to - from ≡ n → take (to - from) (drop from xs) ≡ part from n xs
+unfolding part
+part-between from to n xs e = ap (λ (k : ℕ). take k (drop from xs)) e
+
 -- a part that ends before the seam is a part of the first list
 pub part-first : (i n : ℕ) (xs ys : List ℕ) → i + n ≤ length xs → part i n (xs ++ ys) ≡ part i n xs
 unfolding part
@@ -170,15 +175,6 @@ module _ (at : ℕ) (new xs : List ℕ) where
         let e = at + length new in
         ap (take n) (drop-from e i (splice at new xs) h ∙ ap (drop (i - e)) drop-splice ∙ sym (drop-from e i xs h))
 
--- a part put back where it was changes nothing
-pub splice-part : (at n : ℕ) (xs : List ℕ) → at + n ≤ length xs → splice at (part at n xs) xs ≡ xs
-unfolding splice part
-splice-part at n xs h =
-    ap (λ (k : ℕ). take at xs ++ (part at n xs ++ drop (at + k) xs)) (part-length at n xs h)
-    ∙ ap (λ (ys : List ℕ). take at xs ++ (part at n xs ++ ys)) (sym (drop-drop n at xs))
-    ∙ ap (λ (ys : List ℕ). take at xs ++ ys) (take-append-drop n (drop at xs))
-    ∙ take-append-drop at xs
-
 -- the test for equality
 pub same-refl : (xs : List ℕ) → same xs xs ≡ true
 unfolding same
@@ -195,3 +191,21 @@ same-equal (x ∷ xs) (y ∷ ys) e =
 
 pub same-iff : (xs ys : List ℕ) → (same xs ys ≡ true) ↔ (xs ≡ ys)
 same-iff xs ys = (same-equal xs ys, λ q. ap (same xs) (sym q) ∙ same-refl xs)
+
+-- two lists of two parts each, the first parts of one length
+pub same-append : (xs us ys vs : List ℕ) → length xs ≡ length us → same (xs ++ ys) (us ++ vs) ≡ same xs us && same ys vs
+unfolding same
+same-append [] [] ys vs l = refl
+same-append [] (u ∷ us) ys vs l = absurd (omega arith)
+same-append (x ∷ xs) [] ys vs l = absurd (omega arith)
+same-append (x ∷ xs) (u ∷ us) ys vs l =
+    ap (λ (b : Bool). eqb x u && b) (same-append xs us ys vs (omega arith)) ∙ sym (and-assoc (eqb x u) (same xs us) (same ys vs))
+
+-- k bytes are a number's exactly if their number is it
+pub same-number : (k n : ℕ) (bs : List ℕ) → AreBytes bs → length bs ≡ k → n < 256 ^ k → same bs (little k n) ≡ eqb (number bs) n
+same-number k n bs h l small =
+    same-tests (same bs (little k n)) (eqb (number bs) n)
+    (λ e. eq-eqb (number bs) n (ap number (same-iff bs (little k n) .0 e) ∙ number-little k n small))
+    (λ e.
+    same-iff bs (little k n) .1
+    (number-unique bs (little k n) h (little-bytes k n) (l ∙ sym (little-length k n)) (eqb-true (number bs) n e ∙ sym (number-little k n small))))

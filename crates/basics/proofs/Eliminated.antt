@@ -211,14 +211,6 @@ keeps-no-cycle {Step} before xs e holds alone =
     let h = holds k m s in
     keeps-places before xs e k m (h .0) (h .1) (h .2) (λ q. alone m (subst (λ (j : ℕ). Step j m) q s)))
 
--- so where everybody left stands in such a list, and nobody left stands before himself
-pub kept-no-cycle : (n : ℕ) (before : ℕ → ℕ → Bool) (left : ℕ → Bool) (xs : List ℕ) → keeps before xs ≡ true
-    → ((k : ℕ) → k < n → left k ≡ true → member k xs ≡ true) → ((k : ℕ) → k < n → left k ≡ true → before k k ≡ false)
-    → ¬ Cycle (LeftPair n before left)
-kept-no-cycle n before left xs e holds alone =
-    keeps-no-cycle before xs e (λ k m s. (holds k (s .0) (s .2), holds m (s .1) (s .3), s .4))
-    (λ k s. clash (s .4) (alone k (s .0) (s .2)))
-
 module _ (n : ℕ) (before before′ : ℕ → ℕ → Bool) (same : (k m : ℕ) → k < n → m < n → before k m ≡ before′ k m) where
   -- what agrees below the limit gives the same
   pub clear-cong : (left left′ : ℕ → Bool) → Agree n left left′ → Agree n (clear n before left) (clear n before′ left′)
@@ -243,13 +235,6 @@ module _ (n : ℕ) (before before′ : ℕ → ℕ → Bool) (same : (k m : ℕ)
         ap₂ (λ j xs. cond (ltb j n) (j ∷ xs) []) (next-cong left left′ h)
         (taken-cong rounds (without n before left m) (without n before′ left′ m) (without-cong left left′ m h)
         ∙ ap (λ j. taken n before′ key′ rounds (without n before′ left′ j)) (next-cong left left′ h))
-
-    pub takes-cong : {left left′ : ℕ → Bool} {xs : List ℕ} → Agree n left left′ → TakesLowest n before key left xs → TakesLowest n before′ key′ left′ xs
-    takes-cong {left} {left′} h (stop none) = stop (λ m k. sym (clear-cong left left′ h m k) ∙ none m k)
-    takes-cong {left} {left′} h (take m k c low t) =
-        take m k (sym (clear-cong left left′ h m k) ∙ c)
-        (λ j l d. let x = low j l (clear-cong left left′ h j l ∙ d) in omega (arith, alike m k, alike j l))
-        (takes-cong (without-cong left left′ m h) t)
 
     pub eliminated-cong : (left left′ : ℕ → Bool) → Agree n left left′ → eliminated n before key left ≡ eliminated n before′ key′ left′
     unfolding eliminated

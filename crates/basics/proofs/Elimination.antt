@@ -14,8 +14,8 @@ use Rattle.basics.specs.Below.{countBelow}
 use Rattle.basics.specs.Lists.{member, distinct, keeps}
 use Rattle.basics.specs.Walk.{Walk, last, then, Cycle}
 use Rattle.basics.specs.Elimination.{clear, without, LeftPair, TakesLowest, stop, take}
-use Rattle.basics.proofs.Bools.{split, clash, false-of-not, and-left, and-right, and-both, and-fails-left, and-fails-right}
-use Rattle.basics.proofs.Below.{any-at, any-fails, any-false, count-lt}
+use Rattle.basics.proofs.Bools.{clash, false-of-not, and-left, and-right, and-both}
+use Rattle.basics.proofs.Below.{any-at, any-false, count-lt}
 use Rattle.basics.proofs.Lists.{member-nil, member-cases, member-head, member-tail, member-neither, keeps-nil, keeps-cons, distinct-nil, distinct-cons}
 use Rattle.basics.proofs.Walk.{join, map-cycle, last-step, stuck-loop}
 
@@ -30,12 +30,6 @@ module _ (n : ℕ) (before : ℕ → ℕ → Bool) where
   clear-nobody left m e k h l =
       let none = any-false (λ j. left j && before j m) n (not-true _ (and-right (left m) _ e)) k h in
       false-of-not (before k m) (λ b. clash (and-both (left k) (before k m) l b) none)
-
-  pub clear-of : (left : ℕ → Bool) (m : ℕ) → left m ≡ true → ((k : ℕ) → k < n → left k ≡ true → before k m ≡ false) → clear n before left m ≡ true
-  unfolding clear
-  clear-of left m l h =
-      and-both (left m) _ l
-      (ap not (any-fails (λ j. left j && before j m) n (λ k i. split (left k) (λ t. and-fails-right (left k) (before k m) (h k i t)) (λ f. and-fails-left (left k) (before k m) f))))
 
   -- who has one left before him is not clear
   pub pair-not-clear : (left : ℕ → Bool) (k m : ℕ) → LeftPair n before left k m → clear n before left m ≡ false

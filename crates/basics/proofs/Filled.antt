@@ -11,7 +11,6 @@ use lib.ListN.{length, getD, set, replicate, length-append, length-map, length-s
 use lib.Seq.{getD-at, ext-getD, getD-set-same, getD-set-other}
 use borrow.Author.Tests.{lt-ltb, le-ltb, ltb-true, ltb-false}
 use Rattle.basics.specs.Below.{filledBelow}
-use Rattle.basics.proofs.Below.{Agree}
 use Rattle.basics.proofs.Elements.{getD-map-within}
 use Rattle.basics.proofs.Bools.{split, below-more, equal-or-not}
 
@@ -96,12 +95,6 @@ module _ {ℓ} {A : Type ℓ} (f : ℕ → A) (d : A) (n w : ℕ) {xs : List A} 
   -- the limit is reached
   pub filled-whole : (limit : ℕ) → n ≤ limit → limit ≤ n → xs ≡ filledBelow f d limit w
   filled-whole limit h k = subst (λ (m : ℕ). xs ≡ filledBelow f d m w) (le-antisymm h k) so-far
-
-module _ {ℓ} {A : Type ℓ} (f g : ℕ → A) (d : A) where
-  pub filled-cong : (n w : ℕ) → Agree n f g → filledBelow f d n w ≡ filledBelow g d n w
-  filled-cong n w h =
-      filled-is g d n w (filledBelow f d n w) (filled-length f d n w)
-      (λ i k. filled-get f d n w i d k ∙ split (ltb i n) (λ t. rw t (h i (ltb-true i n t))) (λ t. rw t))
 
 -- an array filled from another one, element by element, is its image
 pub filled-map {ℓ κ} : {A : Type ℓ} {B : Type κ} (f : A → B) (xs : List A) (a : A) (d : B) (w : ℕ) → length xs ≡ w → filledBelow (λ i. f (getD xs i a)) d w w ≡ map f xs

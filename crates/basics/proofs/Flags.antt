@@ -1,21 +1,15 @@
 -- How a chain of tests goes: a flag answers for it, or the next test is asked. Assumes nothing.
 use mathlib.Core.Path.{_≡_, refl, sym, _∙_}
 use mathlib.Core.Logic.{_⊎_, ⊎-elim}
-use mathlib.Core.Bool.{Bool, true, false, _&&_, _||_, and-assoc}
+use mathlib.Core.Bool.{Bool, true, false, _&&_, and-assoc}
 
--- the flag t has the answer of x: of x && y and x || y it is the answer, or y is
+-- the flag t has the answer of x: of x && y it is the answer, or y is
 module _ (x y t : Bool) (same : t ≡ x) where
   pub and-asked : t ≡ true → y ≡ x && y
   and-asked e = rw (sym same ∙ e)
 
   pub and-skipped : t ≡ false → t ≡ x && y
   and-skipped e = e ∙ rw (sym same ∙ e)
-
-  pub or-taken : t ≡ true → t ≡ x || y
-  or-taken e = e ∙ rw (sym same ∙ e)
-
-  pub or-asked : t ≡ false → y ≡ x || y
-  or-asked e = rw (sym same ∙ e)
 
 -- the flag t is y if x passes, and x if x fails
 pub and-made : (x y t : Bool) → ((x ≡ true) × (t ≡ y)) ⊎ ((x ≡ false) × (t ≡ x)) → t ≡ x && y

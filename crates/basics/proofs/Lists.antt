@@ -1,18 +1,18 @@
 -- Laws of the tests on lists: what each says of the members, how it goes over an append, what a list that keeps a relation orders,
 -- and how long a list without repeats can be. Assumes nothing.
 use mathlib.Core.Path.{_≡_, refl, sym, _∙_, ap, ap₂, subst}
-use mathlib.Core.Logic.{_⊎_, inl, inr, ⊎-elim, _↔_}
-use mathlib.Core.Bool.{Bool, true, false, not, cond, _&&_, _||_, true≢false, false≢true, and-assoc, or-assoc}
+use mathlib.Core.Logic.{_⊎_, inl, inr, ⊎-elim}
+use mathlib.Core.Bool.{Bool, true, false, not, cond, _&&_, _||_, false≢true, or-assoc}
 use mathlib.Core.List.{List, [], _∷_, _++_, map, List·Memᴰ, List·Memᴰ·head, List·Memᴰ·tail}
 use Prim.Native.Nat.{ℕ, suc, _+_, _<_, _≤_, suc-le-suc}
 use lib.ListN.{length, drop, length-append}
 use lib.Seq.{drop-at}
 use native.Mathlib.Omega.{arith}
 use lib.Dec.{eqb}
-use borrow.Author.Tests.{eqb-true, eqb-false, eq-eqb, ne-eqb, not-true}
+use borrow.Author.Tests.{eqb-true, eq-eqb, ne-eqb, not-true}
 use Rattle.basics.specs.Below.{countBelow}
 use Rattle.basics.specs.Lists.{allIn, anyIn, member, distinct, keeps}
-use Rattle.basics.proofs.Bools.{clash, false-of-not, and-left, and-right, and-both, and-false, or-true, or-left, or-right, or-fails, equal-or-not}
+use Rattle.basics.proofs.Bools.{clash, false-of-not, and-left, and-right, and-both, or-true, or-left, or-right, or-fails, equal-or-not}
 use Rattle.basics.proofs.Below.{count-at-most, count-lt}
 
 -- four tests of which one passes, in two orders
@@ -33,21 +33,6 @@ module _ {ℓ} {A : Type ℓ} (p : A → Bool) where
   unfolding allIn
   all-in-of [] h = refl
   all-in-of (y ∷ ys) h = and-both (p y) (allIn p ys) (h y (List·Memᴰ·head refl)) (all-in-of ys (λ x m. h x (List·Memᴰ·tail m)))
-
-  pub all-in-fails : (xs : List A) {x : A} → List·Memᴰ x xs → p x ≡ false → allIn p xs ≡ false
-  all-in-fails xs m e = false-of-not (allIn p xs) (λ a. clash (all-in-at xs a m) e)
-
-  pub all-in-false : (xs : List A) → allIn p xs ≡ false → (x : A) × List·Memᴰ x xs × (p x ≡ false)
-  unfolding allIn
-  all-in-false [] e = absurd (true≢false e)
-  all-in-false (y ∷ ys) e =
-      ⊎-elim (λ f. (y, List·Memᴰ·head refl, f)) (λ f. let r = all-in-false ys f in (r .0, List·Memᴰ·tail (r .1), r .2))
-      (and-false (p y) (allIn p ys) e)
-
-  pub all-in-append : (xs ys : List A) → allIn p (xs ++ ys) ≡ allIn p xs && allIn p ys
-  unfolding allIn
-  all-in-append [] ys = refl
-  all-in-append (x ∷ xs) ys = ap (λ b. p x && b) (all-in-append xs ys) ∙ sym (and-assoc (p x) (allIn p xs) (allIn p ys))
 
   -- some member passes
   pub any-in-of : (xs : List A) {x : A} → List·Memᴰ x xs → p x ≡ true → anyIn p xs ≡ true
@@ -101,9 +86,6 @@ module _ (k : ℕ) where
   unfolding member anyIn
   member-at (x ∷ xs) e = ⊎-elim (λ t. List·Memᴰ·head (eqb-true k x t)) (λ t. List·Memᴰ·tail (member-at xs t)) (or-true (eqb k x) (member k xs) e)
   member-at [] e = absurd (false≢true e)
-
-  pub member-iff : (xs : List ℕ) → (member k xs ≡ true) ↔ List·Memᴰ k xs
-  member-iff xs = (member-at xs, member-of xs)
 
   pub member-append : (xs ys : List ℕ) → member k (xs ++ ys) ≡ member k xs || member k ys
   unfolding member anyIn
@@ -166,17 +148,7 @@ module _ (before : ℕ → ℕ → Bool) where
   unfolding keeps
   keeps-tail m xs e = and-right (not (anyIn (λ k. before k m) xs)) (keeps before xs) e
 
-  -- of two parts each keeps it, and nobody in the second stands before one in the first
-  pub keeps-first : (xs ys : List ℕ) → keeps before (xs ++ ys) ≡ true → keeps before xs ≡ true
-  keeps-first [] ys e = keeps-nil
-  keeps-first (x ∷ xs) ys e =
-      keeps-cons x xs (λ k i. keeps-head x (xs ++ ys) e k (member-append k xs ys ∙ or-left (member k xs) (member k ys) i))
-      (keeps-first xs ys (keeps-tail x (xs ++ ys) e))
-
-  pub keeps-second : (xs ys : List ℕ) → keeps before (xs ++ ys) ≡ true → keeps before ys ≡ true
-  keeps-second [] ys e = e
-  keeps-second (x ∷ xs) ys e = keeps-second xs ys (keeps-tail x (xs ++ ys) e)
-
+  -- of two parts: nobody in the second stands before one in the first, and where it is so two parts that keep it keep it together
   pub keeps-across : (xs ys : List ℕ) → keeps before (xs ++ ys) ≡ true → (k m : ℕ) → member m xs ≡ true → member k ys ≡ true → before k m ≡ false
   keeps-across [] ys e k m i j = absurd (clash i (member-nil m))
   keeps-across (x ∷ xs) ys e k m i j =
@@ -192,10 +164,6 @@ module _ (before : ℕ → ℕ → Bool) where
       keeps-cons x (xs ++ ys)
       (λ k i. ⊎-elim (keeps-head x xs a k) (h k x (member-head x x xs refl)) (or-true (member k xs) (member k ys) (sym (member-append k xs ys) ∙ i)))
       (keeps-append xs ys (keeps-tail x xs a) b (λ k m i. h k m (member-tail m x xs i)))
-
-  -- nobody listed after m stands before it
-  pub keeps-split : (xs ys : List ℕ) (m : ℕ) → keeps before (xs ++ (m ∷ ys)) ≡ true → (k : ℕ) → member k ys ≡ true → before k m ≡ false
-  keeps-split xs ys m e = keeps-head m ys (keeps-second xs (m ∷ ys) e)
 
   -- of two that are listed, the one that stands before the other comes first
   pub keeps-places : (xs : List ℕ) → keeps before xs ≡ true → (k m : ℕ) → member k xs ≡ true → member m xs ≡ true → before k m ≡ true
@@ -273,30 +241,12 @@ distinct-keeps-cong before before′ (x ∷ xs) d h =
     differs : (k : ℕ) → List·Memᴰ k xs → k ≡ x → ⊥
     differs k i q = clash (subst (λ (j : ℕ). member j xs ≡ true) q (member-of k xs i)) (distinct-head x xs d)
 
--- of two parts each is distinct, and they share nobody
-module _ (xs ys : List ℕ) where
-  kept : distinct (xs ++ ys) ≡ true → keeps (λ k m. eqb m k) (xs ++ ys) ≡ true
-  kept e = sym (distinct-is-keeps (xs ++ ys)) ∙ e
-
-  pub distinct-first : distinct (xs ++ ys) ≡ true → distinct xs ≡ true
-  distinct-first e = distinct-is-keeps xs ∙ keeps-first (λ k m. eqb m k) xs ys (kept e)
-
-  pub distinct-second : distinct (xs ++ ys) ≡ true → distinct ys ≡ true
-  distinct-second e = distinct-is-keeps ys ∙ keeps-second (λ k m. eqb m k) xs ys (kept e)
-
-  pub distinct-across : distinct (xs ++ ys) ≡ true → (k : ℕ) → member k xs ≡ true → member k ys ≡ false
-  distinct-across e k i =
-      false-of-not (member k ys) (λ j. eqb-false k k (keeps-across (λ a b. eqb b a) xs ys (kept e) k k i j) refl)
-
-  pub distinct-append : distinct xs ≡ true → distinct ys ≡ true → ((k : ℕ) → member k xs ≡ true → member k ys ≡ false) → distinct (xs ++ ys) ≡ true
-  distinct-append a b h =
-      distinct-is-keeps (xs ++ ys)
-      ∙ keeps-append (λ k m. eqb m k) xs ys (sym (distinct-is-keeps xs) ∙ a) (sym (distinct-is-keeps ys) ∙ b)
-      (λ k m i j. ne-eqb m k (λ q. clash j (h k (subst (λ (n : ℕ). member n xs ≡ true) q i))))
-
--- nobody listed after m is m
-pub distinct-split : (xs ys : List ℕ) (m : ℕ) → distinct (xs ++ (m ∷ ys)) ≡ true → member m ys ≡ false
-distinct-split xs ys m e = distinct-head m ys (distinct-second xs (m ∷ ys) e)
+-- two parts that are distinct, and share nobody
+pub distinct-append : (xs ys : List ℕ) → distinct xs ≡ true → distinct ys ≡ true → ((k : ℕ) → member k xs ≡ true → member k ys ≡ false) → distinct (xs ++ ys) ≡ true
+distinct-append xs ys a b h =
+    distinct-is-keeps (xs ++ ys)
+    ∙ keeps-append (λ k m. eqb m k) xs ys (sym (distinct-is-keeps xs) ∙ a) (sym (distinct-is-keeps ys) ∙ b)
+    (λ k m i j. ne-eqb m k (λ q. clash j (h k (subst (λ (n : ℕ). member n xs ≡ true) q i))))
 
 -- numbers without repeats that are all taken by a function below a limit are no more than the limit
 module _ (f : ℕ → ℕ) (n : ℕ) where

@@ -1,6 +1,6 @@
 -- Laws of the two searches below a limit: what each finds is settled by a record, and that record fits one number only.
 -- Assumes nothing.
-use mathlib.Core.Path.{_≡_, refl, sym, _∙_, subst}
+use mathlib.Core.Path.{_≡_, sym, _∙_, subst}
 use mathlib.Core.Logic.{_⊎_, inl, inr}
 use mathlib.Core.Bool.{Bool, true, false, cond, _&&_}
 use Prim.Native.Nat.{ℕ, zero, suc, _+_, _<_, _≤_}
@@ -11,7 +11,7 @@ use native.Mathlib.Omega.{arith}
 use lib.Dec.{ltb}
 use borrow.Author.Tests.{ltb-true, ltb-false, lt-ltb, le-ltb}
 use Rattle.basics.specs.Below.{leastBelow, lowestBelow}
-use Rattle.basics.proofs.Below.{Agree, agree-below}
+use Rattle.basics.proofs.Below.{Agree}
 use Rattle.basics.proofs.Bools.{split, clash, and-left, and-right, and-false, below-more}
 
 -- i is the least number below n that passes, or n where nobody does
@@ -70,11 +70,7 @@ module _ (p : ℕ → Bool) where
   pub least-none : (n : ℕ) → ((j : ℕ) → j < n → p j ≡ false) → leastBelow p n ≡ n
   least-none n f = least-unique (least-is n) (record { most = le-refl n; passes = λ k. absurd (omega arith); fails = f })
 
-  -- one more: found before, or not before
-  pub least-kept : (n : ℕ) → leastBelow p n < n → leastBelow p (n + 1) ≡ leastBelow p n
-  unfolding leastBelow
-  least-kept n h = rw (add-one, lt-ltb (leastBelow p n) n h)
-
+  -- one more, where none was found before
   pub least-more : (n : ℕ) → leastBelow p n ≡ n → leastBelow p (n + 1) ≡ cond (p n) n (n + 1)
   unfolding leastBelow
   least-more n e = rw (add-one, le-ltb (leastBelow p n) n (omega arith))
@@ -225,32 +221,20 @@ module _ (p : ℕ → Bool) where
         equal : (lowestBelow p key n < n → ⊥) → lowestBelow p key n ≤ n → lowestBelow p key n ≡ n
         equal h k = omega arith
 
-    pub lowest-below : (n i : ℕ) → i < n → p i ≡ true → lowestBelow p key n < n
-    lowest-below n i h t = below (λ e. clash t (lowest-none n e i h)) (lowest-at-most n)
-      where
-        below : (lowestBelow p key n ≡ n → ⊥) → lowestBelow p key n ≤ n → lowestBelow p key n < n
-        below k m = omega arith
-
-module _ (p q : ℕ → Bool) where
+module _ (p q : ℕ → Bool) (key other : ℕ → ℕ) where
   -- tests and keys that agree give one answer
-  pub least-cong : (n : ℕ) → Agree n p q → leastBelow p n ≡ leastBelow q n
-  unfolding leastBelow
-  least-cong zero h = refl
-  least-cong (suc n) h = rw (least-cong n (agree-below h), h n (le-refl (suc n)))
+  pub lowest-cong : (n : ℕ) → Agree n p q → Agree n key other → lowestBelow p key n ≡ lowestBelow q other n
+  lowest-cong n h k = lowest-unique q other (moved (lowest-is p key n)) (lowest-is q other n)
+    where
+      passing : {j : ℕ} → j < n → q j ≡ true → p j ≡ true
+      passing {j} m t = h j m ∙ t
 
-  module _ (key other : ℕ → ℕ) where
-    pub lowest-cong : (n : ℕ) → Agree n p q → Agree n key other → lowestBelow p key n ≡ lowestBelow q other n
-    lowest-cong n h k = lowest-unique q other (moved (lowest-is p key n)) (lowest-is q other n)
-      where
-        passing : {j : ℕ} → j < n → q j ≡ true → p j ≡ true
-        passing {j} m t = h j m ∙ t
-
-        moved : {i : ℕ} → IsLowest p key n i → IsLowest q other n i
-        moved {i} r =
-            record {
-              most = r .most;
-              passes = λ m. sym (h i m) ∙ r .passes m;
-              lowest = λ m j l t. let x = r .lowest m j l (passing l t) in omega (arith, k i m, k j l);
-              first = λ m j l t. let x = r .first m j l (passing (omega arith) t) in omega (arith, k i m, k j (omega arith));
-              fails = λ e j m. sym (h j m) ∙ r .fails e j m;
-            }
+      moved : {i : ℕ} → IsLowest p key n i → IsLowest q other n i
+      moved {i} r =
+          record {
+            most = r .most;
+            passes = λ m. sym (h i m) ∙ r .passes m;
+            lowest = λ m j l t. let x = r .lowest m j l (passing l t) in omega (arith, k i m, k j l);
+            first = λ m j l t. let x = r .first m j l (passing (omega arith) t) in omega (arith, k i m, k j (omega arith));
+            fails = λ e j m. sym (h j m) ∙ r .fails e j m;
+          }

@@ -5,15 +5,14 @@ use Prim.Native.Nat.{ℕ, _+_, _-_, _*_}
 use native.Mathlib.Omega.{arith}
 use lib.ListN.{length, take, drop}
 use Rattle.basics.specs.Bytes.{part, splice}
-use Rattle.basics.proofs.Bytes.{splice-lent}
+use Rattle.basics.proofs.Bytes.{part-between, splice-lent}
 use Rattle.rules.specs.Sizes.{cell-bytes}
 use Rattle.rules.specs.Cells.{with-cell}
 
 module _ (c : ℕ) (bytes : List ℕ) where
   -- the part from a cell's front to its end is its eight bytes
   pub cell-part : take (cell-bytes * c + cell-bytes - cell-bytes * c) (drop (cell-bytes * c) bytes) ≡ part (cell-bytes * c) cell-bytes bytes
-  unfolding part
-  cell-part = let size : cell-bytes * c + cell-bytes - cell-bytes * c ≡ cell-bytes = omega arith in ap (λ n. take n (drop (cell-bytes * c) bytes)) size
+  cell-part = part-between (cell-bytes * c) (cell-bytes * c + cell-bytes) cell-bytes bytes (omega arith)
 
   -- a cell's bytes that were lent, and have come back as a value's
   pub cell-written : (value new : List ℕ) → new ≡ value → length new ≡ cell-bytes

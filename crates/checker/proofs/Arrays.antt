@@ -1,36 +1,20 @@
--- Arrays in which one element is set: each element after it, and a limit that stays; where a position and a cell stand; and the table with
--- one transaction's writes laid over it. Assumes nothing.
+-- Where a position and a cell stand in an array, and the table with one transaction's writes laid over it. Assumes nothing.
 use Prim.Native.Nat.{ℕ, zero, suc, _*_, _≤_, _<_}
-use mathlib.Core.Path.{_≡_, refl, sym, _∙_, ap}
+use mathlib.Core.Path.{_≡_, refl, _∙_}
 use mathlib.Core.Bool.{cond, _&&_}
 use mathlib.Core.List.{List}
 use native.Mathlib.Nat.{not-suc-le-zero, le-refl}
-use native.Mathlib.Decide.{decLt}
 use native.Mathlib.Omega.{arith}
-use lib.ListN.{length, getD, set, length-set, List·getD-eq-default}
+use lib.ListN.{length, getD, set, length-set}
 use lib.Seq.{getD-set-same, getD-set-other}
 use lib.Dec.{eqb}
-use borrow.Author.Tests.{eqb-true, eq-eqb, ne-eqb}
+use borrow.Author.Tests.{eqb-true, eq-eqb}
 use Rattle.basics.specs.Below.{runBelow}
-use Rattle.basics.proofs.Bools.{split, same-tests, and-left, and-right, and-both, equal-or-not, below-more}
+use Rattle.basics.proofs.Bools.{split, same-tests, and-left, and-right, and-both, below-more}
+use Rattle.basics.proofs.Elements.{set-each}
 use Rattle.rules.specs.declared.Size.{Size}
 use Rattle.rules.specs.Sizes.{width}
 use Rattle.replay.specs.Kept.{mark, laid}
-
--- an element after one is set
-pub getD-set {ℓ} : {A : Type ℓ} (xs : List A) (i j : ℕ) (x d : A) → j < length xs → getD (set xs i x) j d ≡ cond (eqb j i) x (getD xs j d)
-getD-set xs i j x d h =
-    equal-or-not j i
-    (λ q. rw (eq-eqb j i q) (ap (λ n. getD (set xs n x) j d) (sym q) ∙ getD-set-same xs j x d h))
-    (λ q. rw (ne-eqb j i q) (getD-set-other xs i j x d q))
-
--- a limit of all elements stays one if it is one of what is set
-pub set-bounded : (n : ℕ) (xs : List ℕ) (i x : ℕ) → x ≤ n → ((j : ℕ) → getD xs j 0 ≤ n) → (j : ℕ) → getD (set xs i x) j 0 ≤ n
-set-bounded n xs i x h k j =
-    elim (decLt j (length xs)) [
-      | yes b ↦ rw (getD-set xs i j x 0 b) (split (eqb j i) (λ t. rw t h) (λ f. rw f (k j)))
-      | no b ↦ omega (arith, List·getD-eq-default (set xs i x) 0 {n = j} (omega (arith, length-set xs i x)))
-    ]
 
 -- a position and a cell stand by themselves
 pub mark-only : (i at c d : ℕ) → c < width → d < width → eqb (mark i c) (mark at d) ≡ eqb i at && eqb d c
@@ -70,7 +54,7 @@ module _ (wrote : List ℕ) (at : ℕ) where
       let below = runBelow laid-one n table in
       let w = getD wrote (mark at n) 0 in
       let older = laid-below-bounded n limit table h k in
-      split (eqb w 0) (λ t. rw t older) (λ f. rw f (set-bounded limit below n w (h (mark at n)) older))
+      split (eqb w 0) (λ t. rw t older) (λ f. rw f (set-each (λ m. m ≤ limit) below n w 0 (h (mark at n)) older))
 
   -- a cell from n on is as it was
   laid-below-later : (n : ℕ) (table : List ℕ) (c : ℕ) → n ≤ c → getD (runBelow laid-one n table) c 0 ≡ getD table c 0

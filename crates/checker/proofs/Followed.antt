@@ -9,7 +9,8 @@ use lib.Seq.{getD-set-same, getD-set-other}
 use lib.Dec.{ltb, eqb}
 use borrow.Author.Tests.{eqb-true, ltb-true, lt-ltb}
 use Rattle.basics.specs.Lists.{anyIn, distinct}
-use Rattle.basics.proofs.Bools.{split, and-fails-right}
+use Rattle.basics.proofs.Bools.{split, and-fails-right, cond-or, cond-not}
+use Rattle.basics.proofs.Elements.{getD-set, set-each}
 use Rattle.rules.specs.declared.Record.{Record}
 use Rattle.rules.specs.declared.Size.{Size}
 use Rattle.rules.specs.Sizes.{Within, width}
@@ -22,7 +23,7 @@ use Rattle.rules.proofs.Moments.{moment-more}
 use Rattle.listing.specs.Listed.{position}
 use Rattle.replay.specs.Kept.{Kept, mark, holder-after, laid, followed}
 use Rattle.explains.specs.Explained.{PastOnly}
-use Rattle.checker.proofs.Arrays.{getD-set, set-bounded, mark-only, mark-within, laid-length, laid-bounded, laid-at}
+use Rattle.checker.proofs.Arrays.{mark-only, mark-within, laid-length, laid-bounded, laid-at}
 use Rattle.listing.proofs.Positions.{position-found, position-member, position-only}
 use Rattle.checker.proofs.Mirrored.{latest-write, table-record, Mirrors, walks-fields, wrote-told}
 
@@ -37,15 +38,6 @@ listed-both : (b f q g : Bool) → (q ≡ true → b ≡ true) → (b && f) && (
 listed-both b f true g h = rw (h refl)
 listed-both b f false g h = and-fails-right (b && f) false refl
 
--- a choice is a test, and turns with its test
-cond-or : (a b : Bool) → cond a true b ≡ a || b
-cond-or true b = refl
-cond-or false b = refl
-
-cond-not {ℓ} : {A : Type ℓ} (b : Bool) (x y : A) → cond b x y ≡ cond (not b) y x
-cond-not true x y = refl
-cond-not false x y = refl
-
 -- an array in which one element is set, or none
 getD-set-if {ℓ} : {A : Type ℓ} (b : Bool) (xs : List A) (i j : ℕ) (x d : A) → j < length xs
     → getD (cond b (set xs i x) xs) j d ≡ cond (b && eqb j i) x (getD xs j d)
@@ -57,7 +49,7 @@ length-set-if true xs i x = length-set xs i x
 length-set-if false xs i x = refl
 
 bounded-set-if : (b : Bool) (n : ℕ) (xs : List ℕ) (i x : ℕ) → x ≤ n → ((j : ℕ) → getD xs j 0 ≤ n) → (j : ℕ) → getD (cond b (set xs i x) xs) j 0 ≤ n
-bounded-set-if true n xs i x h k = set-bounded n xs i x h k
+bounded-set-if true n xs i x h k = set-each (λ m. m ≤ n) xs i x 0 h k
 bounded-set-if false n xs i x h k = k
 
 -- the table, with writes laid over it or without
@@ -182,7 +174,7 @@ module _ (z : Size) (t : ℕ) (order : List ℕ) (within : Within z) (once : dis
           let here : getD (s′ .wrote) (mark at c) 0 ≡ last = writes-more at c l h ∙ ap (λ k. latest-write (events (r ∷ day)) k c) (position-found order who l) in
           laid-at (s′ .wrote) at z (s .table) c h (omega (arith, m .table-length, within .cells))
           ∙ ap₂ (λ (x y : ℕ). cond (eqb x 0) y x) here (m .tables c h)
-          ∙ cond-not (eqb last 0) (table-record order (events day) c) last
+          ∙ sym (cond-not (eqb last 0) (table-record order (events day) c) last)
           ∙ ap (λ b. cond b last (table-record order (events day) c)) (sym (wrote-told (r ∷ day) who c))
 
   -- whether somebody unlisted has committed

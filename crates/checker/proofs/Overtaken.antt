@@ -1,7 +1,6 @@
 -- Who, listed later, comes to stand before a record's transaction: what is kept says what the day says, kind by kind. Assumes nothing.
 use Prim.Native.Nat.{ℕ, _<_}
-use mathlib.Core.Path.{_≡_, refl, sym, _∙_, ap, ap₂, subst}
-use mathlib.Core.Logic.{⊎-elim}
+use mathlib.Core.Path.{_≡_, refl, sym, _∙_, ap, ap₂}
 use mathlib.Core.Bool.{Bool, true, false, not, _&&_, _||_, or-false}
 use mathlib.Core.List.{List, _∷_}
 use native.Mathlib.Omega.{arith}
@@ -10,8 +9,8 @@ use lib.Dec.{ltb, eqb}
 use borrow.Author.Tests.{eqb-true, eq-eqb, ne-eqb}
 use Rattle.basics.specs.Below.{anyBelow}
 use Rattle.basics.specs.Lists.{anyIn}
-use Rattle.basics.proofs.Bools.{split, same-tests, and-left, and-right, and-both, and-fails-left, and-fails-right, or-true, or-left, or-right}
-use Rattle.basics.proofs.Below.{any-at, any-of, any-fails, any-cong}
+use Rattle.basics.proofs.Bools.{split, and-or, and-fails-left, and-fails-right}
+use Rattle.basics.proofs.Below.{any-fails, any-cong, any-or, any-only, any-exchange}
 use Rattle.basics.proofs.Lists.{any-in-fails}
 use Rattle.rules.specs.declared.Record.{Record}
 use Rattle.rules.specs.declared.Size.{Size}
@@ -26,55 +25,6 @@ use Rattle.replay.specs.Kept.{Kept, mark}
 use Rattle.overtaking.specs.Later.{committed-later, used-later, any-used-later, overtaken}
 use Rattle.listing.proofs.Positions.{position-found}
 use Rattle.checker.proofs.Mirrored.{Mirrors, walks-fields, committed-told, wrote-told}
-
--- ---- tests
-
--- a test asked with one of two others
-and-or : (a b c : Bool) → a && (b || c) ≡ (a && b) || (a && c)
-and-or true b c = refl
-and-or false b c = refl
-
--- some number passes one of two tests
-any-or : (p q : ℕ → Bool) (n : ℕ) → anyBelow (λ i. p i || q i) n ≡ anyBelow p n || anyBelow q n
-any-or p q n =
-    same-tests (anyBelow (λ i. p i || q i) n) (anyBelow p n || anyBelow q n)
-    (λ t.
-    let x = any-at (λ i. p i || q i) n t in
-    ⊎-elim (λ a. or-left (anyBelow p n) (anyBelow q n) (any-of p n (x .0) (x .1) a)) (λ b. or-right (anyBelow p n) (anyBelow q n) (any-of q n (x .0) (x .1) b))
-    (or-true (p (x .0)) (q (x .0)) (x .2)))
-    (λ t.
-    ⊎-elim (λ a. let x = any-at p n a in any-of (λ i. p i || q i) n (x .0) (x .1) (or-left (p (x .0)) (q (x .0)) (x .2)))
-    (λ b. let x = any-at q n b in any-of (λ i. p i || q i) n (x .0) (x .1) (or-right (p (x .0)) (q (x .0)) (x .2)))
-    (or-true (anyBelow p n) (anyBelow q n) t))
-
--- the one number that is asked for passes
-any-only : (p : ℕ → Bool) (n c : ℕ) → c < n → anyBelow (λ d. eqb c d && p d) n ≡ p c
-any-only p n c h =
-    same-tests (anyBelow (λ d. eqb c d && p d) n) (p c)
-    (λ t.
-    let x = any-at (λ d. eqb c d && p d) n t in
-    let d = x .0 in
-    subst (λ (k : ℕ). p k ≡ true) (sym (eqb-true c d (and-left (eqb c d) (p d) (x .2)))) (and-right (eqb c d) (p d) (x .2)))
-    (λ t. any-of (λ d. eqb c d && p d) n c h (and-both (eqb c c) (p c) (eq-eqb c c refl) t))
-
--- two searches may be made in either order
-exchange-of : (a b : ℕ → Bool) (p : ℕ → ℕ → Bool) (m n : ℕ) → anyBelow (λ i. a i && anyBelow (λ c. b c && p i c) n) m ≡ true
-    → anyBelow (λ c. b c && anyBelow (λ i. a i && p i c) m) n ≡ true
-exchange-of a b p m n t =
-    let x = any-at (λ i. a i && anyBelow (λ c. b c && p i c) n) m t in
-    let i = x .0 in
-    let y = any-at (λ c. b c && p i c) n (and-right (a i) (anyBelow (λ c. b c && p i c) n) (x .2)) in
-    let c = y .0 in
-    any-of (λ d. b d && anyBelow (λ j. a j && p j d) m) n c (y .1)
-    (and-both (b c) (anyBelow (λ j. a j && p j c) m) (and-left (b c) (p i c) (y .2))
-    (any-of (λ j. a j && p j c) m i (x .1)
-    (and-both (a i) (p i c) (and-left (a i) (anyBelow (λ d. b d && p i d) n) (x .2)) (and-right (b c) (p i c) (y .2)))))
-
-exchange : (a b : ℕ → Bool) (p : ℕ → ℕ → Bool) (m n : ℕ)
-    → anyBelow (λ i. a i && anyBelow (λ c. b c && p i c) n) m ≡ anyBelow (λ c. b c && anyBelow (λ i. a i && p i c) m) n
-exchange a b p m n =
-    same-tests (anyBelow (λ i. a i && anyBelow (λ c. b c && p i c) n) m) (anyBelow (λ c. b c && anyBelow (λ i. a i && p i c) m) n)
-    (exchange-of a b p m n) (exchange-of b a (λ c i. p i c) n m)
 
 -- ---- kinds
 
@@ -185,7 +135,7 @@ module _ (z : Size) (t : ℕ) (order : List ℕ) (day : List Record) (s : Kept) 
   commit-told l q =
       any-cong (λ c. not (eqb (getD (s .wrote) (mark at c) 0) 0) && used-later (s .commit) (s .wrote) (s .read) c at (length order) true) (λ c. wrote-cell es who c && any-later (used c)) (z .cells)
       (λ c h. ap₂ _&&_ (wrote-kept at c l h ∙ ap (λ k. wrote-cell es k c) (position-found order who l)) (used-later-told c h))
-      ∙ sym (exchange (ltb at) (wrote-cell es who) (λ i c. used c (getD order i 0)) (length order) (z .cells))
+      ∙ sym (any-exchange (ltb at) (wrote-cell es who) (λ i c. used c (getD order i 0)) (length order) (z .cells))
       ∙ sym
       (later-cong (arises z es (event day r)) (λ k. anyBelow (λ c. wrote-cell es who c && used c k) (z .cells)) (λ k.
       arises-as q k

@@ -13,6 +13,7 @@ use Rattle.basics.specs.Lists.{allIn, member, distinct, keeps}
 use Rattle.basics.specs.Bytes.{same}
 use Rattle.basics.proofs.Bools.{split, clash, and-fails-left}
 use Rattle.basics.proofs.Below.{all-cong}
+use Rattle.basics.proofs.Indexed.{all-in-below}
 use Rattle.basics.proofs.Lists.{keeps-cong, keeps-nobody}
 use Rattle.rules.specs.declared.Record.{Record}
 use Rattle.rules.specs.declared.Size.{Size}
@@ -27,7 +28,7 @@ use Rattle.replay.specs.Kept.{Kept}
 use Rattle.listing.specs.Listed.{position, all-in-time}
 use Rattle.overtaking.specs.Later.{overtaken}
 use Rattle.explains.specs.Explained.{CellRight, value-at, source, read-explained, own-explained, explained}
-use Rattle.listing.proofs.Positions.{all-in-below, position-found, position-member, keeps-position}
+use Rattle.listing.proofs.Positions.{position-found, position-member, keeps-position}
 use Rattle.checker.proofs.Mirrored.{latest-write, Mirrors, walks-fields, committed-told}
 use Rattle.checker.proofs.Followed.{cell-within}
 use Rattle.checker.proofs.Valued.{value-of-bytes, valued, write-valued, table-valued, own-read-wrote}

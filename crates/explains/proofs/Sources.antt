@@ -1,30 +1,25 @@
 -- Where a value stands: a part that is lent is the value of a record or of a cell, and so is what a value came from. Assumes nothing.
 use Prim.Native.Nat.{ℕ, _+_, _*_, _-_, _≤_}
-use mathlib.Core.Path.{_≡_, sym, _∙_, ap}
+use mathlib.Core.Path.{_≡_, sym, _∙_}
 use mathlib.Core.List.{List}
 use native.Mathlib.Omega.{arith}
 use lib.ListN.{take, drop}
 use borrow.Author.Tests.{eq-eqb, ne-eqb}
-use Rattle.basics.specs.Bytes.{part}
 use Rattle.basics.proofs.Bools.{cond-passes, cond-fails}
+use Rattle.basics.proofs.Bytes.{part-between}
 use Rattle.rules.specs.Cells.{cell-of}
 use Rattle.explains.specs.Explained.{value-at, source}
-
--- a part from a place to another
-between : (from to n : ℕ) (xs : List ℕ) → to - from ≡ n → take (to - from) (drop from xs) ≡ part from n xs
-unfolding part
-between from to n xs e = ap (λ (k : ℕ). take k (drop from xs)) e
 
 -- the last eight bytes of a record are its value
 pub value-lent : (n : ℕ) (log : List ℕ) → 1 ≤ n → take (16 * n - (16 * n - 8)) (drop (16 * n - 8) log) ≡ value-at log n
 unfolding value-at
-value-lent n log h = between (16 * n - 8) (16 * n) 8 log (omega arith)
+value-lent n log h = part-between (16 * n - 8) (16 * n) 8 log (omega arith)
 
 module _ (opening log : List ℕ) (w c : ℕ) where
   -- where there is no record, the opening value of the cell
   pub source-opening : w ≡ 0 → take (8 * c + 8 - 8 * c) (drop (8 * c) opening) ≡ source opening log w c
   unfolding source cell-of
-  source-opening e = between (8 * c) (8 * c + 8) 8 opening (omega arith) ∙ sym (cond-passes _ _ (eq-eqb w 0 e))
+  source-opening e = part-between (8 * c) (8 * c + 8) 8 opening (omega arith) ∙ sym (cond-passes _ _ (eq-eqb w 0 e))
 
   -- else the record's value
   pub source-record : (w ≡ 0 → ⊥) → take (16 * w - (16 * w - 8)) (drop (16 * w - 8) log) ≡ source opening log w c

@@ -2,7 +2,7 @@
 -- Assumes nothing.
 use mathlib.Core.Path.{_≡_, refl, sym, _∙_, ap}
 use mathlib.Core.Bool.{Bool, false}
-use mathlib.Core.List.{List, [], _∷_, _++_, map, append-nil}
+use mathlib.Core.List.{List, [], _∷_, _++_, map, append-nil, map-append}
 use Prim.Native.Nat.{ℕ, suc, _+_, _<_, _≤_}
 use native.Mathlib.Omega.{arith}
 use lib.ListN.{length, getD, set, drop, length-append, length-map}
@@ -37,10 +37,6 @@ buffer-more order buffer x count e h =
     ∙ sym (append-snoc order x (drop (suc (length order)) buffer))
     ∙ ap (λ (k : ℕ). order ++ (x ∷ []) ++ drop k buffer) (sym more)
     ∙ sym (buffer-is (order ++ (x ∷ [])) buffer)
-
-map-more : (f : ℕ → ℕ) (xs : List ℕ) (x : ℕ) → map f (xs ++ (x ∷ [])) ≡ map f xs ++ (f x ∷ [])
-map-more f [] x = refl
-map-more f (y ∷ xs) x = ap (λ (l : List ℕ). f y ∷ l) (map-more f xs x)
 
 -- after so many rounds: who was taken first, that their numbers stand in the buffer, and that each round took one of those left
 pub record PutSoFar (n : ℕ) (before : ℕ → ℕ → Bool) (key : ℕ → ℕ) (present left : List Bool) (count : ℕ) (buffer₀ buffer : List ℕ) : Type 0 where
@@ -85,7 +81,7 @@ module _ {n : ℕ} {before : ℕ → ℕ → Bool} {key : ℕ → ℕ} {present 
         numbers =
             ap (λ (b : List ℕ). set b count (key m)) (sofar .numbers)
             ∙ buffer-more (map key (sofar .first)) buffer₀ (key m) count (simp length-map many) (omega arith)
-            ∙ ap (λ (o : List ℕ). buffer-after o buffer₀) (sym (map-more key (sofar .first) m));
+            ∙ ap (λ (o : List ℕ). buffer-after o buffer₀) (sym (map-append key (sofar .first) (m ∷ [])));
         few = omega arith;
       }
 

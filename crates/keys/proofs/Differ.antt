@@ -7,9 +7,8 @@ use lib.Dec.{eqb}
 use lib.ListN.{getD}
 use native.Mathlib.Decide.{decLt}
 use native.Mathlib.Omega.{arith}
-use borrow.Author.Tests.{eq-eqb, ne-eqb}
 use Rattle.basics.specs.Below.{allBelow, filledBelow}
-use Rattle.basics.proofs.Bools.{same-tests, and-swap, and-fails-right, equal-or-not}
+use Rattle.basics.proofs.Bools.{same-tests, and-swap, and-fails-right, eqb-swap}
 use Rattle.basics.proofs.Below.{all-at, all-of}
 use Rattle.basics.proofs.Filled.{filled-at, filled-past}
 use Rattle.rules.specs.declared.Place.{Place}
@@ -19,11 +18,7 @@ use Rattle.rules.specs.Books.{Books, place-at}
 use Rattle.rules.specs.Sound.{differ}
 use Rattle.keys.specs.Apart.{apart}
 
--- two numbers are compared either way round
-eqb-swap : (m n : ℕ) → eqb m n ≡ eqb n m
-eqb-swap m n = equal-or-not m n (λ e. eq-eqb m n e ∙ sym (eq-eqb n m (sym e))) (λ d. ne-eqb m n d ∙ sym (ne-eqb n m (λ e. d (sym e))))
-
--- and so are two that pass
+-- two that pass are compared either way round
 unlike-swap : (p q : Bool) (m n : ℕ) → not (p && (q && eqb m n)) ≡ not (q && (p && eqb n m))
 unlike-swap p q m n = rw (eqb-swap m n) (ap not (and-swap p q (eqb n m)))
 

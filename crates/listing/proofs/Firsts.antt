@@ -12,9 +12,9 @@ use Rattle.basics.specs.Lists.{member, distinct}
 use Rattle.basics.proofs.Bools.{false-of-not, same-tests}
 use Rattle.basics.proofs.Below.{all-at, all-of}
 use Rattle.basics.proofs.Search.{least-found}
+use Rattle.basics.proofs.Indexed.{member-index, distinct-there}
 use Rattle.basics.proofs.Lists.{distinct-nil, distinct-cons}
 use Rattle.listing.specs.Listed.{position}
-use Rattle.listing.proofs.Positions.{member-index, distinct-there}
 
 -- numbers at two positions differ
 abbrev Differ : List ℕ → Type 0

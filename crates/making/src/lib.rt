@@ -64,7 +64,7 @@ pub fn make(
     requires { ⌜ line .kind < 12 ⌝ }
     ensures { λ r. ⌜ LeavesAll (books .records) (now (log .entry)) (now (numbers .entry)) r (now (table .exit)) (now (drafts .exit)) (now (log .exit)) (now (numbers .exit)) (call-outcome books (call-for line) (take 128 (value-on (now (content .entry)) (line .kind))) (now (table .entry)) (now (drafts .entry)) (now (log .entry)) (now (numbers .entry))) ⌝ }
 {
-    let mut value = [0u8; 128];
+    let mut value = [0u8; lines::VALUE_ROOM];
     let n = lines::value_of(content, line.kind, &mut value);
     call::stepped(
         books,

@@ -6,10 +6,7 @@ use libc::STDOUT_FILENO;
 use machine::books::Books;
 use machine::call;
 use machine::call::Call;
-use rules::sizes::DRAFTS_BYTES;
-use rules::sizes::LOG_BYTES;
-use rules::sizes::ORDER_NUMBERS;
-use rules::sizes::TABLE_BYTES;
+use rules::sizes;
 use script::lines;
 use script::numbers;
 use script::words;
@@ -93,7 +90,7 @@ fn line_at(script: &[u8], at: usize) -> &[u8] {
 
 // The kind of a line: one that is longer than 255 bytes is none of the calls.
 fn kind_of(text: &[u8]) -> usize {
-    if 255 < text.len() {
+    if lines::LONGEST < text.len() {
         return lines::UNKNOWN;
     }
     let line = lines::parse(words::content(text));
@@ -134,7 +131,7 @@ fn play_line(
     if lines::TABLE <= line.kind {
         return books;
     }
-    let mut order = [0u16; ORDER_NUMBERS];
+    let mut order = [0u16; sizes::ORDER_NUMBERS];
     let answer = making::make(books, line, content, table, drafts, log, &mut order);
     answer.books
 }
@@ -171,8 +168,8 @@ fn repeat_line(
 ) -> Told {
     let content = words::content(text);
     let line = lines::parse(content);
-    let mut order = [0u16; ORDER_NUMBERS];
-    let mut value = [0u8; 128];
+    let mut order = [0u16; sizes::ORDER_NUMBERS];
+    let mut value = [0u8; lines::VALUE_ROOM];
     if lines::TABLE <= line.kind {
         return no_round(books);
     }
@@ -191,9 +188,9 @@ fn repeat_line(
 
 // Makes the calls before the last one, which starts at a place, and then does the rounds.
 fn measure(kind: u8, rounds: u64, script: &[u8], last: usize) -> Told {
-    let mut table = [0u8; TABLE_BYTES];
-    let mut drafts = [0u8; DRAFTS_BYTES];
-    let mut log = [0u8; LOG_BYTES];
+    let mut table = [0u8; sizes::TABLE_BYTES];
+    let mut drafts = [0u8; sizes::DRAFTS_BYTES];
+    let mut log = [0u8; sizes::LOG_BYTES];
     let books = play_all(
         Books::open(),
         buffer::front(script, last),

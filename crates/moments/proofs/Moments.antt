@@ -1,25 +1,13 @@
--- The greatest value so far after one more cell, the moment of a transaction by its three cases, and who is in its company. Assumes nothing.
+-- The moment of a transaction by its three cases, and who is in its company. Assumes nothing.
 use mathlib.Core.Path.{_≡_, sym, _∙_}
 use mathlib.Core.Bool.{true, _&&_}
-use Prim.Native.Nat.{ℕ, _+_, _<_, _≤_}
-use native.Mathlib.Omega.{arith}
+use Prim.Native.Nat.{ℕ}
 use lib.Dec.{ltb}
 use borrow.Author.Tests.{eq-eqb, ne-eqb}
-use Rattle.basics.specs.Below.{greatestBelow}
-use Rattle.basics.proofs.Below.{greatest-more}
 use Rattle.rules.specs.declared.Place.{Place}
 use Rattle.rules.specs.declared.Size.{Size}
 use Rattle.rules.specs.Books.{Books, place-at, is-committed}
 use Rattle.rules.specs.Judging.{latest-read, moment, company}
-
-module _ (f : ℕ → ℕ) (n r x : ℕ) where
-  -- the next value is greater, and is taken
-  pub greatest-taken : r ≡ greatestBelow f n → r < f n → x ≡ f n → x ≡ greatestBelow f (n + 1)
-  greatest-taken e h q = omega (arith, greatest-more f n)
-
-  -- the next value is not greater, and the greatest is kept
-  pub greatest-kept : r ≡ greatestBelow f n → f n ≤ r → x ≡ r → x ≡ greatestBelow f (n + 1)
-  greatest-kept e h q = omega (arith, greatest-more f n)
 
 module _ (z : Size) (p : Place) where
   -- committed: the commit record

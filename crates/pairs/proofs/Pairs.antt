@@ -6,20 +6,14 @@ use mathlib.Core.Bool.{Bool, true, false, cond, _&&_, _||_}
 use native.Mathlib.Omega.{arith}
 use lib.Dec.{leb, ltb}
 use borrow.Author.Tests.{le-ltb}
-use Rattle.basics.specs.Below.{anyBelow}
 use Rattle.basics.proofs.Bools.{and-fails-left, and-fails-right}
-use Rattle.basics.proofs.Below.{any-fails}
+use Rattle.basics.proofs.Below.{any-where}
 use Rattle.rules.specs.declared.Place.{Place}
 use Rattle.rules.specs.declared.Size.{Size}
 use Rattle.rules.specs.Books.{is-committed, wrote, first-read, last-read}
 use Rattle.rules.specs.Judging.{write-write, write-read, read-write}
 use Rattle.pairs.specs.Cells.{overlap-of, read-after-of, read-before-of, comes-first}
 use Rattle.pairs.specs.Commits.{commit-or}
-
--- a search made only where b passes is a search for a test that nobody passes where b fails
-any-where : (b : Bool) (p : Bool → ℕ → Bool) (n : ℕ) → ((i : ℕ) → p false i ≡ false) → anyBelow (p b) n ≡ b && anyBelow (p true) n
-any-where true p n none = refl
-any-where false p n none = any-fails (p false) n (λ i h. none i)
 
 module _ (z : Size) (k m : Place) where
   -- the commit records that the pass is given

@@ -7,7 +7,7 @@ use crate::save;
 use machine::books::Answer;
 use machine::books::Books;
 use rules::numbers::GRANTED;
-use rules::sizes::ORDER_NUMBERS;
+use rules::sizes;
 use script::lines;
 use script::lines::Line;
 use script::words;
@@ -102,7 +102,7 @@ pub fn play(
         look(kind, content, opening, table, log, books.records);
         return books;
     }
-    let mut numbers = [0u16; ORDER_NUMBERS];
+    let mut numbers = [0u16; sizes::ORDER_NUMBERS];
     let answer = making::make(books, line, content, table, drafts, log, &mut numbers);
     print_answer(line, content, answer, table, drafts, &numbers);
     if kind < lines::CLOSE {

@@ -5,10 +5,7 @@ mod day;
 use libc::STDIN_FILENO;
 use libc::STDOUT_FILENO;
 use machine::books::Books;
-use rules::sizes::DRAFTS_BYTES;
-use rules::sizes::LOG_BYTES;
-use rules::sizes::RECORD_BYTES;
-use rules::sizes::TABLE_BYTES;
+use rules::sizes;
 use script::input;
 use script::lines;
 use script::words;
@@ -53,8 +50,8 @@ fn print_bytes(bytes: &[u8]) {
 // The records of a log.
 fn print_records(records: &[u8]) {
     let mut at = 0;
-    while at + RECORD_BYTES <= records.len() {
-        let end = at + RECORD_BYTES;
+    while at + sizes::RECORD_BYTES <= records.len() {
+        let end = at + sizes::RECORD_BYTES;
         print_bytes(&records[at..end]);
         at = end;
     }
@@ -63,7 +60,7 @@ fn print_records(records: &[u8]) {
 // The log as it stands: a line for each record, then the trailer.
 fn print_log(log: &[u8], records: u16) {
     let count = day::records_in(log, records);
-    let end = RECORD_BYTES * count as usize;
+    let end = sizes::RECORD_BYTES * count as usize;
     print_records(buffer::front(log, end));
     let trailer = day::trailer_of(log, count);
     print_bytes(&trailer);
@@ -83,7 +80,7 @@ fn write_parts(file: i32, opening: &[u8], records: &[u8], trailer: &[u8]) -> boo
 // Saves the opening table and the log as it stands: 0 if all is written, else 1.
 fn save(name: &[u8], opening: &[u8], log: &[u8], records: u16) -> u8 {
     let count = day::records_in(log, records);
-    let end = RECORD_BYTES * count as usize;
+    let end = sizes::RECORD_BYTES * count as usize;
     let trailer = day::trailer_of(log, count);
     let file = os::open_overwrite(name);
     if file < 0 {
@@ -188,11 +185,11 @@ fn play_all(
 }
 
 fn main() {
-    let mut line = [0u8; 255];
-    let mut opening = [0u8; TABLE_BYTES];
-    let mut table = [0u8; TABLE_BYTES];
-    let mut drafts = [0u8; DRAFTS_BYTES];
-    let mut log = [0u8; LOG_BYTES];
+    let mut line = [0u8; lines::LONGEST];
+    let mut opening = [0u8; sizes::TABLE_BYTES];
+    let mut table = [0u8; sizes::TABLE_BYTES];
+    let mut drafts = [0u8; sizes::DRAFTS_BYTES];
+    let mut log = [0u8; sizes::LOG_BYTES];
     let start = Session {
         books: Books::open(),
         lines: 0,

@@ -6,7 +6,7 @@ use native.Mathlib.Nat.{le-refl}
 use native.Mathlib.Decide.{decLe}
 use native.Mathlib.Numerals.{add-one}
 use native.Mathlib.Omega.{arith}
-use lib.ListN.{length, getD, take, drop, set, length-append, length-drop}
+use lib.ListN.{length, getD, take, drop, set}
 use lib.Seq.{drop-at, drop-cons, length-take-le, set-at, take-all, take-at, take-length, take-suc}
 use borrow.Author.Tests.{le-leb, lt-leb}
 use Rattle.texts.specs.Placed.{after-text}
@@ -30,10 +30,6 @@ unfolding with-front
 front-none xs bytes = refl
 
 module _ (xs bytes : List ℕ) (n : ℕ) (within : n ≤ length bytes) where
-  pub front-length : n ≤ length xs → length (with-front xs n bytes) ≡ length xs
-  unfolding with-front
-  front-length h = simp (length-append, length-drop) (omega (arith, length-take-le n bytes within))
-
   pub front-more : {ys : List ℕ} {v : ℕ} → n < length xs → n < length bytes → ys ≡ with-front xs n bytes → v ≡ getD bytes n 0 → set ys n v ≡ with-front xs (n + 1) bytes
   unfolding with-front
   front-more h k e q =

@@ -38,6 +38,11 @@ pub const UNKNOWN: usize = 12;
 
 pub const EMPTY: usize = 13;
 
+// A line that is longer than 255 bytes is none of the calls, and a value on a line has room for 128 bytes.
+pub const LONGEST: usize = 255;
+
+pub const VALUE_ROOM: usize = 128;
+
 // By call: how many words it has, how many of them are numbers, behind its name, and which word is its value (0 for none).
 const WORDS: [usize; 12] = [1, 4, 3, 2, 2, 3, 2, 1, 1, 1, 1, 2];
 

@@ -1,26 +1,13 @@
--- Laws of bytes that are put into a buffer: copied one by one, and put in as a whole or left out. Assumes nothing.
-use mathlib.Core.Path.{_≡_, sym, _∙_, ap}
-use mathlib.Core.List.{List, [], _∷_, _++_}
+-- Laws of bytes that are put into a buffer as a whole or left out. Assumes nothing.
+use mathlib.Core.Path.{_≡_, sym, _∙_}
+use mathlib.Core.List.{List, _++_}
 use Prim.Native.Nat.{ℕ, _+_, _-_, _<_, _≤_}
-use native.Mathlib.Numerals.{add-one}
 use native.Mathlib.Omega.{arith}
-use lib.ListN.{length, getD, take, drop, set, length-drop}
-use lib.Seq.{take-all, take-suc, take-suc-set}
+use lib.ListN.{length, take, drop, length-drop}
+use lib.Seq.{take-all}
 use borrow.Author.Tests.{le-leb, lt-leb}
 use Rattle.basics.proofs.Bytes.{splice-lent}
 use Rattle.texts.specs.Placed.{with-text, after-text}
-
--- ---- one byte more is copied
-
-module _ (out bytes : List ℕ) (i : ℕ) (e : take i out ≡ take i bytes) where
-  pub copied-more : i < length out → i < length bytes → take (i + 1) (set out i (getD bytes i 0)) ≡ take (i + 1) bytes
-  copied-more h k =
-      rw add-one (take-suc-set out i (getD bytes i 0) h ∙ ap (λ (l : List ℕ). l ++ (getD bytes i 0 ∷ [])) e ∙ sym (take-suc bytes i 0 k))
-
-  pub copied-all : length out ≤ i → length bytes ≤ i → out ≡ bytes
-  copied-all h k = sym (take-all i out h) ∙ e ∙ take-all i bytes k
-
--- ---- bytes put in as a whole
 
 module _ (out : List ℕ) (at : ℕ) (bytes : List ℕ) where
   -- left out, where they have no room

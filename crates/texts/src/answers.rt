@@ -2,10 +2,11 @@
 ghost use mathlib.Core.Path.{_≡_};
 ghost use Prim.Native.Nat.{_*_, _≤_};
 ghost use lib.ListN.{length, take};
+ghost use Rattle.rules.specs.Sizes.{cell-bytes};
 ghost use Rattle.texts.specs.Said.{placed, then-number, then-value, number-line, handle-line, value-line, listed, order-line, celled, table-line, unknown-line};
 use crate::buffer;
-use rules::numbers::GRANTED;
-use rules::sizes::CELL_BYTES;
+use rules::numbers;
+use rules::sizes;
 
 // A number after a space, behind what is put already.
 fn then_number(out: &mut [u8], at: usize, n: u64) -> usize
@@ -36,7 +37,7 @@ pub fn handle(out: &mut [u8], name: &[u8], number: u8, handle: u32) -> usize
     ensures { λ r. ⌜ (now (out .exit), r) ≡ placed (now (out .entry)) 0 (handle-line (now (name .entry)) number handle) ⌝ }
 {
     let end = self::number(out, name, number);
-    if number != GRANTED {
+    if number != numbers::GRANTED {
         return end;
     }
     then_number(out, end, handle as u64)
@@ -47,7 +48,7 @@ pub fn value(out: &mut [u8], name: &[u8], number: u8, shown: &[u8]) -> usize
     ensures { λ r. ⌜ (now (out .exit), r) ≡ placed (now (out .entry)) 0 (value-line (now (name .entry)) number (now (shown .entry))) ⌝ }
 {
     let end = self::number(out, name, number);
-    if number != GRANTED {
+    if number != numbers::GRANTED {
         return end;
     }
     then_value(out, end, shown)
@@ -86,14 +87,14 @@ pub fn order(out: &mut [u8], name: &[u8], number: u8, numbers: &[u16], count: us
 
 // The values of cells behind what is put already, each after a space.
 fn cells(out: &mut [u8], at: usize, table: &[u8], count: usize) -> usize
-    requires { ⌜ 8 * count ≤ length (now table) ⌝ }
+    requires { ⌜ cell-bytes * count ≤ length (now table) ⌝ }
     ensures { λ r. ⌜ (now (out .exit), r) ≡ placed (now (out .entry)) at (celled (now (table .entry)) count) ⌝ }
 {
     let mut end = at;
     let mut i = 0;
     while i < count {
-        let from = CELL_BYTES * i;
-        let to = from + CELL_BYTES;
+        let from = sizes::CELL_BYTES * i;
+        let to = from + sizes::CELL_BYTES;
         end = then_value(out, end, &table[from..to]);
         i += 1;
     }
@@ -105,7 +106,7 @@ pub fn table(out: &mut [u8], table: &[u8]) -> usize
     ensures { λ r. ⌜ (now (out .exit), r) ≡ placed (now (out .entry)) 0 (table-line (now (table .entry))) ⌝ }
 {
     let end = buffer::put(out, 0, b"table");
-    cells(out, end, table, table.len() / CELL_BYTES)
+    cells(out, end, table, table.len() / sizes::CELL_BYTES)
 }
 
 // A line of a script that is none of the calls, by its number.

@@ -2,15 +2,14 @@
 // behind the state that it found.
 use libc::STDOUT_FILENO;
 use machine::books::Books;
-use rules::sizes::CELL_BYTES;
-use rules::sizes::DRAFTS_BYTES;
-use rules::sizes::HANDLES_A_TURN;
-use rules::sizes::LOG_BYTES;
-use rules::sizes::PLACES;
-use rules::sizes::TABLE_BYTES;
-use rules::statuses::COMMITTED;
-use rules::statuses::LIVE;
+use rules::sizes;
+use rules::statuses;
 use texts::buffer;
+
+// The last handle, and the last cell.
+const LAST: u32 = sizes::HANDLES - 1;
+
+const LAST_CELL: u32 = sizes::CELLS as u32 - 1;
 
 // Ends the line that is put together in a buffer, and writes it.
 fn print(out: &mut [u8], at: usize) {
@@ -37,7 +36,7 @@ fn with_status(books: Books, status: u8) -> u64 {
     let places = books.places;
     let mut n = 0;
     let mut i = 0;
-    while i < PLACES {
+    while i < sizes::PLACES {
         if places[i].status == status {
             n += 1;
         }
@@ -50,12 +49,17 @@ fn with_status(books: Books, status: u8) -> u64 {
 fn say_state(books: Books, name: &[u8], number: u8) {
     let mut out = [0u8; 128];
     let records = then(&mut out, 0, b"records ", books.records as u64);
-    let live = then(&mut out, records, b" live ", with_status(books, LIVE));
+    let live = then(
+        &mut out,
+        records,
+        b" live ",
+        with_status(books, statuses::LIVE),
+    );
     let committed = then(
         &mut out,
         live,
         b" committed ",
-        with_status(books, COMMITTED),
+        with_status(books, statuses::COMMITTED),
     );
     print_call(&mut out, committed, name, number);
 }
@@ -68,9 +72,14 @@ fn say_handle(handle: u32, name: &[u8], number: u8) {
         &mut out,
         named,
         b" place ",
-        (handle % HANDLES_A_TURN) as u64,
+        (handle % sizes::HANDLES_A_TURN) as u64,
     );
-    let turn = then(&mut out, place, b" turn ", (handle / HANDLES_A_TURN) as u64);
+    let turn = then(
+        &mut out,
+        place,
+        b" turn ",
+        (handle / sizes::HANDLES_A_TURN) as u64,
+    );
     print_call(&mut out, turn, name, number);
 }
 
@@ -112,7 +121,7 @@ fn posts(start: Books, count: u32, table: &mut [u8], log: &mut [u8]) -> Books {
     let mut books = start;
     let mut i = 0;
     while i < count {
-        let posted = books.post(0, &[0; CELL_BYTES], table, log);
+        let posted = books.post(0, &[0; sizes::CELL_BYTES], table, log);
         books = posted.books;
         i += 1;
     }
@@ -135,9 +144,9 @@ fn days(start: Books, count: u32, table: &mut [u8], log: &mut [u8]) -> Books {
 
 // Records 3,998, none live: begin granted. 3,999, one live: read 7, commit goes on.
 fn try_last_begin(
-    table: &mut [u8; TABLE_BYTES],
-    drafts: &mut [u8; DRAFTS_BYTES],
-    log: &mut [u8; LOG_BYTES],
+    table: &mut [u8; sizes::TABLE_BYTES],
+    drafts: &mut [u8; sizes::DRAFTS_BYTES],
+    log: &mut [u8; sizes::LOG_BYTES],
 ) {
     let books = pairs(Books::open(), 1999, log);
     let begun = books.begin(log);
@@ -150,18 +159,18 @@ fn try_last_begin(
 }
 
 // Records 3,999, none live: begin 7, post granted.
-fn try_last_post(table: &mut [u8; TABLE_BYTES], log: &mut [u8; LOG_BYTES]) {
+fn try_last_post(table: &mut [u8; sizes::TABLE_BYTES], log: &mut [u8; sizes::LOG_BYTES]) {
     let posted = posts(Books::open(), 1, table, log);
     let books = pairs(posted, 1999, log);
     let begun = books.begin(log);
     say_state(books, b"begin", begun.number);
-    let post = books.post(0, &[0; CELL_BYTES], table, log);
+    let post = books.post(0, &[0; sizes::CELL_BYTES], table, log);
     say_state(books, b"post", post.number);
 }
 
 // 32 held: begin 6. One gives up: next begin takes its place, turn one up.
-fn try_full(log: &mut [u8; LOG_BYTES]) {
-    let books = begins(Books::open(), 32, log);
+fn try_full(log: &mut [u8; sizes::LOG_BYTES]) {
+    let books = begins(Books::open(), sizes::PLACES as u32, log);
     let begun = books.begin(log);
     say_state(books, b"begin", begun.number);
     let freed = books.give_up(37, log);
@@ -174,9 +183,9 @@ fn try_full(log: &mut [u8; LOG_BYTES]) {
 // Handle 2,097,151 names place 31, turn 65,535; 2,097,152 is Stale. Turn 65,535: next is 0. Posts hold the places below 31, so that each begin
 // takes that one: 33 days of 1,984 begins and 62 more bring it to turn 65,534.
 fn try_last_turn(
-    table: &mut [u8; TABLE_BYTES],
-    drafts: &mut [u8; DRAFTS_BYTES],
-    log: &mut [u8; LOG_BYTES],
+    table: &mut [u8; sizes::TABLE_BYTES],
+    drafts: &mut [u8; sizes::DRAFTS_BYTES],
+    log: &mut [u8; sizes::LOG_BYTES],
 ) {
     let closed = days(Books::open(), 33, table, log);
     let posted = posts(closed, 31, table, log);
@@ -184,30 +193,30 @@ fn try_last_turn(
     let begun = books.begin(log);
     say_handle(begun.answer, b"begin", begun.number);
     let after = begun.books;
-    let named = after.read(2097151, 0, table, drafts, log);
-    say_handle(2097151, b"read", named.number);
-    let stale = after.read(2097152, 0, table, drafts, log);
-    say_number(b"handle ", 2097152, b"read", stale.number);
-    let freed = after.give_up(2097151, log);
-    say_handle(2097151, b"giveup", freed.number);
+    let named = after.read(LAST, 0, table, drafts, log);
+    say_handle(LAST, b"read", named.number);
+    let stale = after.read(sizes::HANDLES, 0, table, drafts, log);
+    say_number(b"handle ", sizes::HANDLES, b"read", stale.number);
+    let freed = after.give_up(LAST, log);
+    say_handle(LAST, b"giveup", freed.number);
     let free = freed.books;
     let again = free.begin(log);
     say_handle(again.answer, b"begin", again.number);
 }
 
 // Cell 32 or more: 5.
-fn try_last_cell(table: &mut [u8; TABLE_BYTES], log: &mut [u8; LOG_BYTES]) {
+fn try_last_cell(table: &mut [u8; sizes::TABLE_BYTES], log: &mut [u8; sizes::LOG_BYTES]) {
     let books = Books::open();
-    let last = books.post(31, &[0; CELL_BYTES], table, log);
-    say_number(b"cell ", 31, b"post", last.number);
-    let past = books.post(32, &[0; CELL_BYTES], table, log);
-    say_number(b"cell ", 32, b"post", past.number);
+    let last = books.post(LAST_CELL, &[0; sizes::CELL_BYTES], table, log);
+    say_number(b"cell ", LAST_CELL, b"post", last.number);
+    let past = books.post(LAST_CELL + 1, &[0; sizes::CELL_BYTES], table, log);
+    say_number(b"cell ", LAST_CELL + 1, b"post", past.number);
 }
 
 fn main() {
-    let mut table = [0u8; TABLE_BYTES];
-    let mut drafts = [0u8; DRAFTS_BYTES];
-    let mut log = [0u8; LOG_BYTES];
+    let mut table = [0u8; sizes::TABLE_BYTES];
+    let mut drafts = [0u8; sizes::DRAFTS_BYTES];
+    let mut log = [0u8; sizes::LOG_BYTES];
     try_last_begin(&mut table, &mut drafts, &mut log);
     try_last_post(&mut table, &mut log);
     try_full(&mut log);

@@ -1,31 +1,34 @@
 -- `cells::lay::lay` meets its contract. The loop's invariant: the drafts are laid over the first c cells, and the length stays.
 -- Assumes nothing.
 use mathlib.Core.Logic.{⊎-elim}
-use mathlib.Core.Path.{_≡_, _∙_, ap}
-use mathlib.Core.Bool.{Bool, false}
+use mathlib.Core.Path.{_≡_, sym, _∙_, ap}
+use mathlib.Core.Bool.{Bool, false, cond}
 use mathlib.Core.List.{List}
 use Prim.Native.Nat.{ℕ, _-_, _≤_}
 use native.Mathlib.Omega.{arith}
 use lib.ListN.{length, getD}
 use borrow.Author.Needs.{needs}
-use Rattle.rules.specs.Cells.{draft-of}
-use Rattle.cells.proofs.Laid.{laid-below, laid-none, laid-written, laid-stays, laid-all}
+use Rattle.basics.specs.Below.{runBelow}
+use Rattle.basics.proofs.Bools.{cond-passes, cond-fails}
+use Rattle.basics.proofs.Below.{run-none, run-next, run-whole}
+use Rattle.rules.specs.declared.Size.{Size}
+use Rattle.rules.specs.Cells.{draft-of, with-cell, laid-over}
 use Rattle.cells.proofs.lay.lay.Statement.{statement}
 use Rattle.cells.proofs.lay.lay.Tie as tie
 
--- the cell is written
-abbrev is-written : List Bool → ℕ → Bool
-is-written written k = getD written k false
+-- what becomes of a table at one cell
+abbrev at-cell : Size → List Bool → List ℕ → ℕ → ℕ → List ℕ → List ℕ
+at-cell z written drafts i c table = cond (getD written c false) (with-cell c (draft-of z drafts i c) table) table
 
 abbrev Inv-loop : tie.InvT-loop
 Inv-loop table₀ drafts i z written c₀ table c =
-    (c ≤ z .cells) × (length table ≡ length table₀) × (table ≡ laid-below (is-written written) (draft-of z drafts i) c table₀)
+    (c ≤ z .cells) × (length table ≡ length table₀) × (table ≡ runBelow (at-cell z written drafts i) c table₀)
 
 abbrev μ-loop : tie.MeasureT-loop
 μ-loop table₀ drafts i z written c₀ table c = z .cells - c
 
 loop-holds : tie.Need-loop-holds Inv-loop μ-loop
-loop-holds c = (search needs, search needs, laid-none _ _ _)
+loop-holds c = (search needs, search needs, sym (run-none _ _))
 
 array-read-if2 : tie.Need-array-read-if2 Inv-loop μ-loop
 array-read-if2 c = search needs
@@ -47,8 +50,9 @@ loop-again c =
     let loop = c .before .before .before .loop in (
       omega arith,
       ⊎-elim (λ w. omega (arith, ap length (w .6))) (λ w. omega (arith, ap length (w .1))) (c .if2 .came),
-      ⊎-elim (λ w. laid-written _ _ _ (loop .inv .2) (w .0 .taken) (w .2 .ensures) (w .6 ∙ w .3 .ensures))
-          (λ w. w .1 ∙ laid-stays _ _ _ (loop .inv .2) (w .0 .left))
+      ⊎-elim (λ w.
+          run-next _ _ _ (loop .inv .2) (w .6 ∙ w .3 .ensures ∙ ap (λ v. with-cell (loop .c) v (loop .table)) (w .2 .ensures) ∙ sym (cond-passes _ _ (w .0 .taken))))
+          (λ w. run-next _ _ _ (loop .inv .2) (w .1 ∙ sym (cond-fails _ _ (w .0 .left))))
           (c .if2 .came),
     )
 
@@ -56,7 +60,8 @@ same-length : tie.Need-same-length Inv-loop μ-loop
 same-length c = search needs
 
 returns : tie.Need-returns Inv-loop μ-loop
-returns c = laid-all _ _ _ (c .before .before .loop .inv .2) _ (omega arith)
+unfolding laid-over
+returns c = run-whole _ _ _ _ (c .before .before .loop .inv .2) (omega arith)
 
 pub lay-spec : {M : Type 1} → statement M
 lay-spec =

@@ -6,9 +6,8 @@ use native.Mathlib.Omega.{arith}
 use lib.ListN.{length, getD, take, drop, set, length-set}
 use lib.Seq.{take-all}
 use borrow.Author.Needs.{needs}
-use denote.Ref.{now}
 use Rattle.basics.specs.Bytes.{number}
-use Rattle.parts.proofs.Copies.{copied-more}
+use Rattle.basics.proofs.Copied.{copied-more}
 use Rattle.checker.specs.Desk.{pairs-of}
 use Rattle.checker.proofs.Unpacked.{pairs-length, pair-at}
 use Rattle.checker.proofs.desk.unpack.Statement.{statement}

@@ -8,9 +8,8 @@ use native.Mathlib.Omega.{arith}
 use lib.ListN.{getD}
 use borrow.Author.Needs.{needs}
 use Rattle.basics.specs.Below.{greatestBelow}
-use Rattle.basics.proofs.Below.{greatest-none}
+use Rattle.basics.proofs.Below.{greatest-none, greatest-taken, greatest-kept}
 use Rattle.rules.specs.Judging.{latest-read}
-use Rattle.moments.proofs.Moments.{greatest-taken, greatest-kept}
 use Rattle.moments.proofs.company.latest_read.Statement.{statement}
 use Rattle.moments.proofs.company.latest_read.Tie as tie
 

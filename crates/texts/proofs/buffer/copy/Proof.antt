@@ -5,7 +5,7 @@ use native.Mathlib.Omega.{arith}
 use lib.ListN.{length, take}
 use denote.Ref.{now}
 use borrow.Author.Needs.{needs}
-use Rattle.texts.proofs.Putting.{copied-more, copied-all}
+use Rattle.basics.proofs.Copied.{copied-more, copied-all}
 use Rattle.texts.proofs.buffer.copy.Statement.{statement}
 use Rattle.texts.proofs.buffer.copy.Tie as tie
 
