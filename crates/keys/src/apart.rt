@@ -4,6 +4,7 @@ ghost use Prim.Native.Nat.{_<_, _≤_};
 ghost use Rattle.basics.specs.Below.{allBelow};
 ghost use Rattle.rules.specs.Sizes.{width};
 ghost use Rattle.keys.specs.Apart.{apart};
+use rules::sizes::WIDTH;
 
 // Of the 32 places behind i, none that passes has the key of place i, if that passes.
 fn is_apart(passes: &[bool; 64], keys: &[u16; 64], i: usize) -> bool
@@ -17,7 +18,7 @@ fn is_apart(passes: &[bool; 64], keys: &[u16; 64], i: usize) -> bool
     let from = i + 1;
     let mut apart = true;
     let mut k = 0;
-    while k < 32 {
+    while k < WIDTH {
         let j = from + k;
         apart = apart & !(passes[j] & (key == keys[j]));
         k += 1;

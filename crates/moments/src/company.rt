@@ -8,6 +8,7 @@ ghost use Rattle.rules.specs.Books.{of-places};
 ghost use Rattle.rules.specs.Judging.{latest-read, moment, company};
 use rules::Place;
 use rules::Size;
+use rules::statuses::COMMITTED;
 
 // The record of the place's last judged read that was granted, 0 for none.
 pub fn latest_read(p: Place, z: Size) -> u16
@@ -31,7 +32,7 @@ pub fn moment_of(p: Place, z: Size) -> u16
     requires { ⌜ Within z ⌝ }
     ensures { λ r. ⌜ r ≡ moment z p ⌝ }
 {
-    if p.status == 2 {
+    if p.status == COMMITTED {
         return p.commit;
     }
     let read = latest_read(p, z);
@@ -48,7 +49,7 @@ pub fn company_of(places: [Place; 32], i: usize, z: Size) -> [bool; 32]
     let mut present = [false; 32];
     let mut k = 0;
     while k < z.places {
-        if k == i || (places[k].status == 2 && places[k].commit < moment) {
+        if k == i || (places[k].status == COMMITTED && places[k].commit < moment) {
             present[k] = true;
         }
         k += 1;

@@ -7,19 +7,25 @@ ghost use Rattle.pairs.specs.Cells.{comes-first};
 ghost use Rattle.pairs.specs.Commits.{commit-or};
 use rules::Place;
 use rules::Size;
+use rules::sizes::WIDTH;
+use rules::statuses::COMMITTED;
 
 // Real time: K is committed and its commit record is below M's begin record.
 pub fn is_real_time(k: Place, m: Place) -> bool
     ensures { λ r. ⌜ r ≡ real-time k m ⌝ }
 {
-    k.status == 2 && k.commit < m.begin
+    k.status == COMMITTED && k.commit < m.begin
 }
 
 // The commit record of a committed one, and the number given for any other.
 fn commit_or(p: Place, other: u16) -> u16
     ensures { λ r. ⌜ r ≡ commit-or p other ⌝ }
 {
-    if p.status == 2 { p.commit } else { other }
+    if p.status == COMMITTED {
+        p.commit
+    } else {
+        other
+    }
 }
 
 // Whether K comes first in some cell. K is told by the cells it wrote, its commit and its first reads, M by the cells it wrote, its commit and its
@@ -64,8 +70,8 @@ pub fn is_before(k: Place, m: Place, z: Size) -> bool
     let later = m.written;
     let sealed = commit_or(m, 0);
     let last = m.last;
-    if z.cells == 32 {
-        return comes_first(earlier, commit, first, later, sealed, last, 32);
+    if z.cells == WIDTH {
+        return comes_first(earlier, commit, first, later, sealed, last, WIDTH);
     }
     comes_first(earlier, commit, first, later, sealed, last, z.cells)
 }

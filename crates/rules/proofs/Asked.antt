@@ -4,12 +4,12 @@ use Prim.Native.Nat.{ℕ, _+_, _≤_, _<_}
 use mathlib.Core.Path.{_≡_, refl, sym, _∙_, ap}
 use mathlib.Core.Bool.{true, false, not, _||_}
 use mathlib.Core.List.{List, [], _∷_, _++_, append-nil}
-use lib.Dec.{ltb, leb, eqb}
+use lib.Dec.{leb, eqb}
 use native.Mathlib.Omega.{arith}
-use borrow.Author.Tests.{ltb-true, ltb-false, leb-false, eqb-true, eqb-false, eq-eqb, ne-eqb, not-true, not-false}
+use borrow.Author.Tests.{ltb-false, leb-false, eqb-true, eqb-false, eq-eqb, ne-eqb, not-true, not-false}
 use Rattle.basics.specs.Lists.{allIn}
 use Rattle.basics.specs.Below.{countBelow}
-use Rattle.basics.proofs.Bools.{split, clash, true-of-not, and-left, and-right, or-fails, or-false-left, or-false-right, equal-or-not}
+use Rattle.basics.proofs.Bools.{clash, true-of-not, and-left, and-right, or-fails, or-false-left, or-false-right, equal-or-not}
 use Rattle.basics.proofs.Below.{any-false, count-zero}
 use Rattle.basics.proofs.Search.{least-is}
 use Rattle.rules.specs.Sizes.{Size, cell-bytes, table-bytes, drafts-bytes, log-bytes, most-records, handles}
@@ -20,26 +20,8 @@ use Rattle.rules.specs.Numbers.{granted, stale, ended, Reason, _if_, fir
 use Rattle.rules.specs.Steps.{soundness-reason, handle-reasons, cell-reason, handle-cell-reasons, room-reason, begin-reasons, write-reasons, read-reasons, show-reasons, commit-reasons, give-up-reasons, post-reasons, order-reasons, close-reasons}
 use Rattle.rules.specs.Kept.{HeldCaller, LiveCaller, BeginAsked, WriteAsked, ReadAsked, ShowAsked, CommitAsked, GiveUpAsked, PostAsked, OrderAsked, CloseAsked, ReasonsAsked}
 use Rattle.rules.proofs.Handles.{ended-is-committed, StatusKnown, good-or-stale}
+use Rattle.rules.proofs.Reasons.{none-after, none-of-both}
 use Rattle.rules.proofs.Sound.{sound-says}
-
--- ---- reasons that do not apply
-
--- none of the reasons applies: the first does not, and none of the later ones
-pub none-after : (r : Reason) (later : List Reason) → 0 < r .number → first-reason (r ∷ later) ≡ granted
-    → (r .applies ≡ false) × (first-reason later ≡ granted)
-unfolding first-reason
-none-after r later positive e =
-    split (r .applies) (λ t. let none : r .number ≡ 0 = rw t at e in absurd (omega arith)) (λ f. (f, rw f at e))
-
--- none of two lists of reasons applies: none of the first and none of the second
-pub none-of-both : (some later : List Reason) → allIn (λ r. ltb 0 (r .number)) some ≡ true → first-reason (some ++ later) ≡ granted
-    → (first-reason some ≡ granted) × (first-reason later ≡ granted)
-unfolding first-reason allIn
-none-of-both [] later positive e = (refl, e)
-none-of-both (r ∷ some) later positive e =
-    let here = none-after r (some ++ later) (ltb-true 0 (r .number) (and-left (ltb 0 (r .number)) _ positive)) e in
-    let rest = none-of-both some later (and-right (ltb 0 (r .number)) _ positive) (here .1) in
-    (rw (here .0) (rest .0), rest .1)
 
 -- ---- one reason at a time
 

@@ -5,7 +5,7 @@ use mathlib.Core.Logic.{_≢_, _⊎_, inl, inr, ⊎-elim}
 use Prim.Native.Nat.{ℕ, _<_}
 use native.Mathlib.Omega.{arith}
 use mathlib.Core.Bool.{Bool, true, false, cond}
-use mathlib.Core.List.{List, [], _∷_}
+use mathlib.Core.List.{List, [], _∷_, _++_}
 use lib.ListN.{length}
 use lib.Dec.{ltb, eqb}
 use borrow.Author.Tests.{ltb-true, eqb-true, eq-eqb}
@@ -45,6 +45,23 @@ none-applies [] positive e = refl
 none-applies (r ∷ later) positive e =
     split (r .applies) (λ t. let h : 0 < r .number = ltb-true 0 (r .number) (and-left (ltb 0 (r .number)) _ positive) in let z : r .number ≡ 0 = rw t at e in absurd (omega arith))
     (λ f. rw f (none-applies later (and-right (ltb 0 (r .number)) _ positive) (rw f at e)))
+
+-- none of the reasons applies: the first does not, and none of the later ones
+pub none-after : (r : Reason) (later : List Reason) → 0 < r .number → first-reason (r ∷ later) ≡ granted
+    → (r .applies ≡ false) × (first-reason later ≡ granted)
+unfolding first-reason
+none-after r later positive e =
+    split (r .applies) (λ t. let none : r .number ≡ 0 = rw t at e in absurd (omega arith)) (λ f. (f, rw f at e))
+
+-- none of two lists of reasons applies: none of the first and none of the second
+pub none-of-both : (some later : List Reason) → allIn (λ r. ltb 0 (r .number)) some ≡ true → first-reason (some ++ later) ≡ granted
+    → (first-reason some ≡ granted) × (first-reason later ≡ granted)
+unfolding first-reason allIn
+none-of-both [] later positive e = (refl, e)
+none-of-both (r ∷ some) later positive e =
+    let here = none-after r (some ++ later) (ltb-true 0 (r .number) (and-left (ltb 0 (r .number)) _ positive)) e in
+    let rest = none-of-both some later (and-right (ltb 0 (r .number)) _ positive) (here .1) in
+    (rw (here .0) (rest .0), rest .1)
 
 -- what holds of each reason's number and of 0 holds of the answer
 pub first-among : (p : ℕ → Bool) (reasons : List Reason) → p granted ≡ true → allIn (λ r. p (r .number)) reasons ≡ true → p (first-reason reasons) ≡ true
