@@ -13,7 +13,7 @@ use Rattle.rules.specs.Handles.{place-of}
 use Rattle.rules.specs.Judging.{HasCycle}
 use Rattle.rules.specs.Numbers.{granted, conflict, Reason, first-reason}
 use Rattle.rules.specs.Cells.{cell-of}
-use Rattle.rules.specs.Daylog.{judged-read-kind, commit-kind, no-value}
+use Rattle.rules.specs.Daylog.{judged-read-kind, commit-kind, no-value, filled}
 use Rattle.rules.specs.State.{State, Outcome, refused, unless-refused}
 use Rattle.rules.specs.Steps.{record-at, read-reasons, read-rule, read-books, commit-reasons, commit-rule, commit-books}
 use Rattle.rules.specs.Calls.{Read, Commit, issued}
@@ -36,7 +36,7 @@ granted-unrefused reasons s o =
 pub record-of-live : (z : Size) (b : Books) (h : ℕ) → LiveCaller z b h → (kind c : ℕ) (value : List ℕ)
     → record-of kind h c value ≡ record-at kind (place-of h) (place-at b (place-of h)) c value
 record-of-live z b h caller kind c value =
-    ap (λ t. record { kind = kind; place = place-of h; cell = c; turn = t; value = value }) (sym (caller .turn))
+    ap (λ t. filled kind (place-of h) c t value) (sym (caller .turn))
 
 module _ (z : Size) (m : Machine) where
   abbrev s : State

@@ -173,10 +173,12 @@ pub record AcceptedSays : Type 0 where
 
 -- the record of a read that met Conflict, turned into a granted one with some value, and that of a commit
 abbrev pub as-granted-read : Record → List ℕ → Record
-as-granted-read r value = record { kind = judged-read-kind; place = r .place; cell = r .cell; turn = r .turn; value = value }
+as-granted-read r value =
+    record { kind = judged-read-kind; place = r .place; cell = r .cell; spare = r .spare; turn = r .turn; gap = r .gap; value = value }
 
 abbrev pub as-granted-commit : Record → Record
-as-granted-commit r = record { kind = commit-kind; place = r .place; cell = r .cell; turn = r .turn; value = r .value }
+as-granted-commit r =
+    record { kind = commit-kind; place = r .place; cell = r .cell; spare = r .spare; turn = r .turn; gap = r .gap; value = r .value }
 
 -- H is permissive with respect to conflict local opacity: it has it, and with no Conflict turned into a grant would it, up to there
 pub record Permissive (opening : List ℕ) (day : List Record) : Type 0 where
