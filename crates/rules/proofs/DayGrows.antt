@@ -190,7 +190,16 @@ zeros-in-bytes = zeros-are-bytes cell-bytes
 pub proper-at : (z : Size) (kind i : ℕ) (p : Place) (c : ℕ) (value : List ℕ) → Within z → kind < 256 → i < z .places → p .turn < turns → c < 256
     → length value ≡ cell-bytes → AreBytes value → Proper (record-at kind i p c value)
 proper-at z kind i p c value w k h t d l v =
-    record { kind-small = k; place-small = omega (arith, w .places); cell-small = d; turn-small = t; value-length = l; value-bytes = v }
+    record {
+      kind-small = k;
+      place-small = omega (arith, w .places);
+      cell-small = d;
+      spare-small = omega arith;
+      turn-small = t;
+      gap-small = omega arith;
+      value-length = l;
+      value-bytes = v;
+    }
 
 -- the turn of a place just begun, or posted, is right
 pub begun-turn : (p : Place) (n : ℕ) → begun p n .turn < turns

@@ -11,6 +11,7 @@ use Rattle.rules.specs.Books.{Books, place-at, is-held, held-status, wro
 use Rattle.rules.specs.Handles.{place-of}
 use Rattle.rules.specs.Judging.{HasCycle}
 use Rattle.rules.specs.Numbers.{granted, conflict, Reason, first-reason}
+use Rattle.rules.specs.Daylog.{filled}
 use Rattle.rules.specs.State.{State, Outcome, refused, unless-refused}
 use Rattle.rules.specs.Steps.{record-at, Judged, books-granted, read-rule}
 use Rattle.rules.specs.Calls.{Call, Read, issued, reasons-of, owns, IsJudged, read-judged, commit-judged}
@@ -33,7 +34,7 @@ none-refuses reasons s o other meets =
 pub record-of-live : (z : Size) (b : Books) (h : ℕ) → LiveCaller z b h → (kind c : ℕ) (value : List ℕ)
     → record-of kind h c value ≡ record-at kind (place-of h) (place-at b (place-of h)) c value
 record-of-live z b h caller kind c value =
-    ap (λ t. record { kind = kind; place = place-of h; cell = c; turn = t; value = value }) (sym (caller .turn))
+    ap (λ t. filled kind (place-of h) c t value) (sym (caller .turn))
 
 module _ (z : Size) (m : Machine) where
   abbrev s : State

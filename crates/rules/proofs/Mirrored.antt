@@ -88,9 +88,9 @@ mirrored-new z b w =
 -- it is right by itself
 right : (z : Size) (r : Record) → leb lowest-kind (r .kind) && leb (r .kind) highest-kind ≡ true → r .place < z .places
     → cond (kind-has-cell (r .kind)) (ltb (r .cell) (z .cells)) (eqb (r .cell) 0) ≡ true
-    → cond (kind-has-value (r .kind)) true (same (r .value) no-value) ≡ true → fields-right z r ≡ true
+    → (eqb (r .spare) 0 && eqb (r .gap) 0) && cond (kind-has-value (r .kind)) true (same (r .value) no-value) ≡ true → fields-right z r ≡ true
 unfolding fields-right
-right z r kind place cell value = and-both _ _ kind (and-both _ _ (lt-ltb (r .place) (z .places) place) (and-both _ _ cell value))
+right z r kind place cell unused = and-both _ _ kind (and-both _ _ (lt-ltb (r .place) (z .places) place) (and-both _ _ cell unused))
 
 module _ (day : List Record) (r : Record) where
   -- begin and post fit at a free place

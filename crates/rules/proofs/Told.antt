@@ -12,7 +12,7 @@ use Rattle.rules.specs.Sizes.{Size, Within, handles-a-turn}
 use Rattle.rules.specs.Books.{Books, place-at, wrote}
 use Rattle.rules.specs.Handles.{handle-of, place-of}
 use Rattle.rules.specs.Numbers.{granted, conflict}
-use Rattle.rules.specs.Daylog.{AllProper, begin-kind, judged-read-kind, own-read-kind, write-kind, commit-kind, give-up-kind, read-conflict-kind, commit-conflict-kind, post-kind, no-value, trailer, commit-total, day-bytes, standing, records-in, day-of}
+use Rattle.rules.specs.Daylog.{AllProper, begin-kind, judged-read-kind, own-read-kind, write-kind, commit-kind, give-up-kind, read-conflict-kind, commit-conflict-kind, post-kind, no-value, trailer, commit-total, day-bytes, standing, records-in, day-of, filled}
 use Rattle.rules.specs.State.{State, Outcome, Entry, nothing, adds, closes, opens, entry-bytes, refused, recorded}
 use Rattle.rules.specs.Steps.{record-at, Judged, granted-of, turned-back, own-read-of, judged-read, open-rule, begin-of, write-of, show-of, give-up-of, post-of, order-of, close-of, close-rule}
 use Rattle.rules.specs.Calls.{Call, Open, Begin, Write, Read, Show, Commit, GiveUp, Post, Order, Close, issued, handed-on, owns, IsJudged, read-judged, commit-judged}
@@ -44,9 +44,9 @@ stands-right z b day mirror proper = (
 
 -- a record that names the transaction of the handle of a place and a turn
 record-of-handle : (kind i t c : ℕ) (value : List ℕ) → i < handles-a-turn
-    → record-of kind (handle-of i t) c value ≡ record { kind = kind; place = i; cell = c; turn = t; value = value }
+    → record-of kind (handle-of i t) c value ≡ filled kind i c t value
 record-of-handle kind i t c value near =
-    ap₂ (λ place turn. record { kind = kind; place = place; cell = c; turn = turn; value = value })
+    ap₂ (λ place turn. filled kind place c turn value)
     (place-of-handle-of i t near) (turn-of-handle-of i t near)
 
 -- the value of the record that an entry adds
@@ -93,7 +93,7 @@ module _ (z : Size) (m : Machine) (w : Within z) (mirror : Mirrored z (m .state 
   live-told h caller kind c value = ap (λ (r : Record). r ∷ m .day) (record-of-live z (s .books) h caller kind c value)
 
   started-told : (kind i t c : ℕ) (value : List ℕ) → i < z .places
-      → record-of kind (handle-of i t) c value ∷ m .day ≡ record { kind = kind; place = i; cell = c; turn = t; value = value } ∷ m .day
+      → record-of kind (handle-of i t) c value ∷ m .day ≡ filled kind i c t value ∷ m .day
   started-told kind i t c value there = ap (λ (r : Record). r ∷ m .day) (record-of-handle kind i t c value (omega (arith, w .places)))
 
   -- ---- a granted read

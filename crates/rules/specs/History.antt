@@ -174,7 +174,7 @@ pub record AcceptedSays : Type 0 where
 abbrev pub as-granted : Record → List ℕ → Record
 as-granted r value =
     let kind = granted-kind (r .kind) in
-    record { kind = kind; place = r .place; cell = r .cell; turn = r .turn; value = cond (kind-has-value kind) value (r .value) }
+    record { kind = kind; place = r .place; cell = r .cell; spare = r .spare; turn = r .turn; gap = r .gap; value = cond (kind-has-value kind) value (r .value) }
 
 -- H is permissive with respect to conflict local opacity: it has it, and with no Conflict turned into a grant would it, up to there
 pub record Permissive (opening : List ℕ) (day : List Record) : Type 0 where

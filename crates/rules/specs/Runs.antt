@@ -16,7 +16,7 @@ use Rattle.rules.specs.Sizes.{Size, Within, table-bytes, drafts-bytes, o
 use Rattle.rules.specs.Books.{Books, Shaped, opened, closed}
 use Rattle.rules.specs.Handles.{handle-of, place-of, turn-of, good-handle}
 use Rattle.rules.specs.Numbers.{granted, conflict, no-order}
-use Rattle.rules.specs.Daylog.{begin-kind, judged-read-kind, own-read-kind, write-kind, commit-kind, give-up-kind, read-conflict-kind, commit-conflict-kind, post-kind, kind-starts, no-value, day-bytes, standing, records-in, day-of}
+use Rattle.rules.specs.Daylog.{begin-kind, judged-read-kind, own-read-kind, write-kind, commit-kind, give-up-kind, read-conflict-kind, commit-conflict-kind, post-kind, kind-starts, no-value, filled, day-bytes, standing, records-in, day-of}
 use Rattle.rules.specs.State.{Outcome, entry-bytes, shown-bytes, buffer-after}
 use Rattle.rules.specs.Steps.{Judged}
 use Rattle.rules.specs.Calls.{Call, Open, Begin, Write, Read, Show, Commit, GiveUp, Post, Order, Close, IsJudged}
@@ -83,7 +83,7 @@ pub record DaysFollow : Type 0 where
 
 -- a record that names the transaction of a handle
 abbrev pub record-of : ℕ → ℕ → ℕ → List ℕ → Record
-record-of kind h c value = record { kind = kind; place = place-of h; cell = c; turn = turn-of h; value = value }
+record-of kind h c value = filled kind (place-of h) c (turn-of h) value
 
 -- the transaction at the handle's place has written the cell
 unfoldable pub reads-own : List Record → ℕ → ℕ → Bool

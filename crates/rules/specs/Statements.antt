@@ -15,7 +15,7 @@ use Rattle.rules.specs.Handles.{place-of}
 use Rattle.rules.specs.Sound.{sound, Sound}
 use Rattle.rules.specs.Judging.{stands-before, company, has-cycle, HasCycle, given-places}
 use Rattle.rules.specs.Numbers.{granted, conflict, first-reason}
-use Rattle.rules.specs.Daylog.{Proper, AllProper, no-value, encode, decode, spare-zero, standing, records-in, day-of}
+use Rattle.rules.specs.Daylog.{Proper, AllProper, no-value, encode, decode, standing, records-in, day-of}
 use Rattle.rules.specs.State.{State, Outcome, nothing, adds, empty}
 use Rattle.rules.specs.Layout.{walks, well-laid-out, WellLaidOut}
 use Rattle.rules.specs.Steps.{record-at, Judged, books-granted}
@@ -32,9 +32,9 @@ LayoutSays = (z : Size) (log : List ℕ) → (well-laid-out z log ≡ true) ↔ 
 
 -- records, days and logs read back
 pub record LogReadsBack : Type 0 where
-  -- a record comes back from its bytes, and 16 bytes with zero in the spare ones from their record
+  -- a record comes back from its bytes, and 16 bytes from their record
   pub record-back : (r : Record) → Proper r → decode (encode r) ≡ r
-  pub bytes-back : (bytes : List ℕ) → length bytes ≡ record-bytes → AreBytes bytes → spare-zero bytes ≡ true → encode (decode bytes) ≡ bytes
+  pub bytes-back : (bytes : List ℕ) → length bytes ≡ record-bytes → AreBytes bytes → encode (decode bytes) ≡ bytes
   -- a day comes back from its log as it stands, and a well laid out log from its day
   pub day-back : (day : List Record) → AllProper day → day-of (standing day) (records-in (standing day)) ≡ day
   pub log-back : (z : Size) (log : List ℕ) → AreBytes log → well-laid-out z log ≡ true → standing (day-of log (records-in log)) ≡ log

@@ -15,7 +15,7 @@ use Rattle.rules.specs.Sound.{sound}
 use Rattle.rules.specs.Judging.{has-cycle, given-order}
 use Rattle.rules.specs.Numbers.{granted, lent, unsound, stale, ended, no-cell, full, log-full, busy, conflict, Reason, _if_, wrong}
 use Rattle.rules.specs.Cells.{cell-of, with-cell, draft-of, with-draft, laid-over}
-use Rattle.rules.specs.Daylog.{begin-kind, judged-read-kind, own-read-kind, write-kind, commit-kind, give-up-kind, read-conflict-kind, commit-conflict-kind, post-kind, no-value}
+use Rattle.rules.specs.Daylog.{begin-kind, judged-read-kind, own-read-kind, write-kind, commit-kind, give-up-kind, read-conflict-kind, commit-conflict-kind, post-kind, no-value, filled}
 use Rattle.rules.specs.State.{State, empty, Outcome, nothing, closes, opens, unless-refused, recorded, shown-draft, shown-cell}
 
 -- the state with other books
@@ -28,7 +28,7 @@ number-of b = b .records + 1
 
 -- a record of a kind at a place, with the place's turn
 abbrev pub record-at : ℕ → ℕ → Place → ℕ → List ℕ → Record
-record-at kind i p c value = record { kind = kind; place = i; cell = c; turn = p .turn; value = value }
+record-at kind i p c value = filled kind i c (p .turn) value
 
 -- ---- reasons that several calls share
 

@@ -6,7 +6,7 @@ use mathlib.Core.List.{List, [], _∷_, map}
 use Rattle.rules.specs.declared.Record.{Record}
 use Rattle.rules.specs.Sizes.{yard}
 use Rattle.rules.specs.Handles.{handle-of}
-use Rattle.rules.specs.Daylog.{no-value}
+use Rattle.rules.specs.Daylog.{no-value, filled}
 use Rattle.rules.specs.State.{Entry, nothing, adds, closes, opens, Outcome}
 use Rattle.rules.specs.Calls.{Call, Begin, Write, Read, Commit, Order}
 use Rattle.rules.specs.Run.{played, fresh}
@@ -110,7 +110,7 @@ case-a =
 
 -- the records that case A leaves, the newest first: kind, place, cell and value, each with turn 1
 abbrev noted : ℕ → ℕ → ℕ → ℕ → Record
-noted kind place c v = record { kind = kind; place = place; cell = c; turn = 1; value = bytes v }
+noted kind place c v = filled kind place c 1 (bytes v)
 
 abbrev pub case-a-day : List Record
 case-a-day =
