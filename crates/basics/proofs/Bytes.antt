@@ -6,11 +6,10 @@ use mathlib.Core.List.{List, [], _∷_, _++_}
 use Prim.Native.Nat.{ℕ, zero, suc, _+_, _-_, _*_, _/_, _%_, _^_, _<_, _≤_}
 use native.Mathlib.Nat.{pow-suc, div-lt-iff-lt-mul, zero-lt-suc}
 use native.Mathlib.Omega.{arith}
-use lib.Dec.{eqb, ltb}
+use lib.Dec.{eqb}
 use lib.ListN.{length, take, drop, replicate, length-append, length-take, length-drop, take-append-drop}
 use lib.Seq.{length-take-le, take-append-le, drop-append-le, take-at, drop-at, drop-drop}
-use borrow.Author.Tests.{eqb-true, eq-eqb, ltb-true, lt-ltb}
-use Rattle.basics.specs.Lists.{allIn}
+use borrow.Author.Tests.{eqb-true, eq-eqb}
 use Rattle.basics.specs.Bytes.{AreBytes, part, splice, little, number, same}
 use Rattle.basics.proofs.Bools.{same-tests, and-left, and-right, and-both}
 
@@ -53,15 +52,6 @@ bytes-splice at new xs h k =
     bytes-append (take at xs) (new ++ drop (at + length new) xs) (bytes-take at xs k)
     (bytes-append new (drop (at + length new) xs) h (bytes-drop (at + length new) xs k))
 
--- the same as a test
-pub bytes-test : (bs : List ℕ) → (allIn (λ b. ltb b 256) bs ≡ true) ↔ AreBytes bs
-unfolding allIn
-bytes-test [] = (λ e. bytes-nil, λ h. refl)
-bytes-test (b ∷ bs) = (
-  λ e. bytes-cons b bs (ltb-true b 256 (and-left (ltb b 256) _ e)) (bytes-test bs .0 (and-right (ltb b 256) _ e)),
-  λ h. and-both (ltb b 256) _ (lt-ltb b 256 (h 0)) (bytes-test bs .1 (bytes-tail b bs h)),
-)
-
 -- a number as k bytes
 pub little-length : (k n : ℕ) → length (little k n) ≡ k
 unfolding little
@@ -89,14 +79,6 @@ little-number (b ∷ bs) h =
     let low : (b + 256 * number bs) % 256 ≡ b = omega arith in
     let high : (b + 256 * number bs) / 256 ≡ number bs = omega arith in
     ap₂ _∷_ low (ap (little (length bs)) high ∙ little-number bs (bytes-tail b bs h))
-
-pub number-bound : (bs : List ℕ) → AreBytes bs → number bs < 256 ^ length bs
-unfolding number
-number-bound [] h = omega arith
-number-bound (b ∷ bs) h =
-    let small = h 0 in
-    let rest = number-bound bs (bytes-tail b bs h) in
-    rw pow-suc (omega arith)
 
 -- one number has one form of k bytes
 pub number-unique : (xs ys : List ℕ) → AreBytes xs → AreBytes ys → length xs ≡ length ys → number xs ≡ number ys → xs ≡ ys

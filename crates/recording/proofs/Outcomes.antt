@@ -13,9 +13,11 @@ use Rattle.rules.specs.Books.{books-of, closed, of-places, no-place, begun, pos
 use Rattle.rules.specs.Handles.{handle-of}
 use Rattle.rules.specs.Judging.{has-cycle, given-order}
 use Rattle.rules.specs.Cells.{with-cell, draft-of, with-draft}
-use Rattle.rules.specs.Daylog.{begin-kind, own-read-kind, write-kind, give-up-kind, post-kind, no-value, commits-in}
-use Rattle.rules.specs.State.{state-of, adds, closes, log-after, buffer-after, recorded, Outcome}
-use Rattle.rules.specs.Steps.{record-at, Judged, books-granted, granted-of, turned-back, meets-conflict, judged-of, begin-of, write-of, own-read-of, judged-read-of, read-of, give-up-of, post-of, order-of, close-of}
+use Rattle.rules.specs.Kinds.{begin-kind, own-read-kind, write-kind, give-up-kind, post-kind}
+use Rattle.rules.specs.Daylog.{no-value, commits-in}
+use Rattle.rules.specs.State.{state-of, adds, closes, log-after, buffer-after, recorded, Outcome, record-at}
+use Rattle.rules.specs.Judged.{Judged, books-granted, granted-of, turned-back, meets-conflict, judged-of}
+use Rattle.rules.specs.Steps.{begin-of, write-of, own-read-of, judged-read-of, read-of, give-up-of, post-of, order-of, close-of}
 use Rattle.rules.proofs.Judging.{cycle-by-places, order-by-places, order-length}
 use Rattle.recording.specs.declared.Step.{Step}
 use Rattle.recording.specs.Left.{Leaves, LogIs}

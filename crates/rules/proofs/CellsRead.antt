@@ -8,13 +8,14 @@ use native.Mathlib.Omega.{arith}
 use borrow.Author.Tests.{eq-eqb}
 use Rattle.basics.proofs.Bools.{never}
 use Rattle.rules.specs.Sizes.{Size, Within}
-use Rattle.rules.specs.Books.{Books, place-at, wrote, read-marked, with-place, with-record}
+use Rattle.rules.specs.Books.{Books, place-at, wrote, read-marked, with-place, with-record, number-of}
 use Rattle.rules.specs.Handles.{place-of}
 use Rattle.rules.specs.Cells.{cell-of, draft-of}
-use Rattle.rules.specs.Daylog.{judged-read-kind, own-read-kind, kind-starts, kind-commits, kind-writes, kind-judged-read, kind-own-read}
-use Rattle.rules.specs.State.{State, recorded}
+use Rattle.rules.specs.Kinds.{judged-read-kind, own-read-kind, kind-starts, kind-commits, kind-writes, kind-judged-read, kind-own-read}
+use Rattle.rules.specs.State.{State, recorded, record-at}
 use Rattle.rules.specs.Day.{events, written-value}
-use Rattle.rules.specs.Steps.{record-at, number-of, books-granted, granted-of, own-read-of, judged-read}
+use Rattle.rules.specs.Judged.{books-granted, granted-of}
+use Rattle.rules.specs.Steps.{own-read-of, judged-read}
 use Rattle.rules.specs.Calls.{Lending}
 use Rattle.rules.specs.Kept.{ReadAsked}
 use Rattle.rules.specs.Run.{Machine, after-call}

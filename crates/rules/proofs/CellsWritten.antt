@@ -15,13 +15,15 @@ use Rattle.basics.proofs.Bools.{split, equal-or-not, cond-passes, cond-fails}
 use Rattle.rules.specs.declared.Place.{Place}
 use Rattle.rules.specs.declared.Record.{Record}
 use Rattle.rules.specs.Sizes.{Size, Within, cell-bytes, turns}
-use Rattle.rules.specs.Books.{Books, place-at, held-status, is-live, wrote, posted, marked, sealed, with-place, lowest-free}
+use Rattle.rules.specs.Books.{Books, place-at, held-status, is-live, wrote, posted, marked, sealed, with-place, lowest-free, number-of}
 use Rattle.rules.specs.Handles.{place-of}
 use Rattle.rules.specs.Cells.{draft-of, with-cell, with-draft, laid-over}
-use Rattle.rules.specs.Daylog.{Proper, write-kind, commit-kind, post-kind, no-value, kind-starts, kind-commits, kind-writes, kind-judged-read, kind-own-read}
-use Rattle.rules.specs.State.{State, recorded}
+use Rattle.rules.specs.Kinds.{write-kind, commit-kind, post-kind, kind-starts, kind-commits, kind-writes, kind-judged-read, kind-own-read}
+use Rattle.rules.specs.Daylog.{Proper, no-value}
+use Rattle.rules.specs.State.{State, recorded, record-at}
 use Rattle.rules.specs.Day.{Event, whose, event, events, wrote-cell, written-value}
-use Rattle.rules.specs.Steps.{record-at, number-of, books-granted, granted-of, judged-commit, write-of, post-of}
+use Rattle.rules.specs.Judged.{books-granted, granted-of}
+use Rattle.rules.specs.Steps.{judged-commit, write-of, post-of}
 use Rattle.rules.specs.Calls.{Lending}
 use Rattle.rules.specs.Kept.{LiveCaller, WriteAsked, CommitAsked, PostAsked}
 use Rattle.rules.specs.Run.{Machine, after-call}

@@ -10,7 +10,7 @@ use Rattle.basics.proofs.Bools.{or-right}
 use Rattle.rules.specs.declared.Record.{Record}
 use Rattle.rules.specs.Sizes.{Size}
 use Rattle.rules.specs.Books.{Books, place-at, is-live, is-committed, is-held}
-use Rattle.rules.specs.Daylog.{kind-commits}
+use Rattle.rules.specs.Kinds.{kind-commits}
 use Rattle.rules.specs.Day.{whose, events, committed}
 use Rattle.rules.proofs.Mirror.{HeldCommitted, CommittedAreHeld}
 use Rattle.rules.proofs.Commits.{committed-cases}

@@ -15,7 +15,7 @@ use Rattle.basics.proofs.Bools.{split, clash, true-of-not, same-tests, and-left
 use Rattle.basics.proofs.Lists.{all-in-cong, any-in-fails, any-in-false}
 use Rattle.rules.specs.declared.Record.{Record}
 use Rattle.rules.specs.Sizes.{Size}
-use Rattle.rules.specs.Kinds.{kind-starts, kind-commits, kind-moves-moment, kind-sets-moment}
+use Rattle.rules.specs.Kinds.{kind-starts, kind-commits, kind-sets-moment}
 use Rattle.rules.specs.Layout.{walks}
 use Rattle.rules.specs.Day.{Event, whose, event, events, is-transaction, moment-of, company-of}
 use Rattle.rules.specs.Checker.{lists-company}

@@ -11,7 +11,8 @@ use Rattle.rules.specs.Handles.{place-of}
 use Rattle.rules.specs.Judging.{has-cycle}
 use Rattle.rules.specs.Numbers.{granted, conflict, Reason, first-reason}
 use Rattle.rules.specs.State.{State, Outcome, refused, unless-refused, recorded}
-use Rattle.rules.specs.Steps.{Judged, books-granted, granted-of, turned-back, meets-conflict, judged-of, open-rule, begin-of, write-of, own-read-of, show-of, give-up-of, post-of, order-of, close-of, read-rule, read-of, commit-rule}
+use Rattle.rules.specs.Judged.{Judged, books-granted, granted-of, turned-back, meets-conflict, judged-of}
+use Rattle.rules.specs.Steps.{open-rule, begin-of, write-of, own-read-of, show-of, give-up-of, post-of, order-of, close-of, read-rule, read-of, commit-rule}
 use Rattle.rules.specs.Calls.{Call, Lending, issued, reasons-of, handed-on, owns, IsJudged, read-judged, commit-judged}
 use Rattle.rules.specs.Statements.{TurnsBack, JudgedConflict, Conflicts}
 use Rattle.rules.proofs.EachCall.{never-nine, no-nine, EachOutcome, each-call}

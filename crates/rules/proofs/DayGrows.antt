@@ -17,10 +17,10 @@ use Rattle.rules.specs.declared.Record.{Record}
 use Rattle.rules.specs.Sizes.{Size, Within, cell-bytes, table-bytes, drafts-bytes, turns, width}
 use Rattle.rules.specs.Books.{Books, Shaped, place-at, no-place, is-live, wrote, freed, begun, posted, read-marked, sealed, with-place, opened, closed}
 use Rattle.rules.specs.Cells.{cell-of, draft-of}
-use Rattle.rules.specs.Daylog.{Proper, no-value, kind-commits, kind-writes, kind-judged-read, kind-own-read}
-use Rattle.rules.specs.State.{State, adds}
+use Rattle.rules.specs.Kinds.{kind-commits, kind-writes, kind-judged-read, kind-own-read}
+use Rattle.rules.specs.Daylog.{Proper, no-value}
+use Rattle.rules.specs.State.{State, adds, with-books, record-at}
 use Rattle.rules.specs.Day.{Event, whose, event, events, written-value}
-use Rattle.rules.specs.Steps.{with-books, record-at}
 use Rattle.rules.specs.Run.{Machine, new-day, moved-on}
 use Rattle.rules.specs.Runs.{DayStarts}
 use Rattle.rules.specs.History.{last-write}

@@ -15,7 +15,8 @@ use Rattle.rules.specs.Handles.{place-of}
 use Rattle.rules.specs.Judging.{has-cycle}
 use Rattle.rules.specs.Numbers.{granted, conflict, Reason, first-reason}
 use Rattle.rules.specs.State.{State, Outcome, refused, unless-refused}
-use Rattle.rules.specs.Steps.{soundness-reason, handle-reasons, cell-reason, handle-cell-reasons, room-reason, begin-reasons, write-reasons, read-reasons, show-reasons, commit-reasons, give-up-reasons, post-reasons, order-reasons, close-reasons, Judged, books-granted, granted-of, turned-back, meets-conflict, judged-of, own-read-of, open-rule, begin-rule, write-rule, read-rule, show-rule, commit-rule, give-up-rule, post-rule, order-rule, close-rule, begin-of, write-of, read-of, show-of, give-up-of, post-of, order-of, close-of}
+use Rattle.rules.specs.Judged.{Judged, books-granted, granted-of, turned-back, meets-conflict, judged-of}
+use Rattle.rules.specs.Steps.{soundness-reason, handle-reasons, cell-reason, handle-cell-reasons, room-reason, begin-reasons, write-reasons, read-reasons, show-reasons, commit-reasons, give-up-reasons, post-reasons, order-reasons, close-reasons, own-read-of, open-rule, begin-rule, write-rule, read-rule, show-rule, commit-rule, give-up-rule, post-rule, order-rule, close-rule, begin-of, write-of, read-of, show-of, give-up-of, post-of, order-of, close-of}
 use Rattle.rules.specs.Calls.{Call, Open, Begin, Write, Read, Show, Commit, GiveUp, Post, Order, Close, Lending, issued, reasons-of, handed-on, owns, IsJudged, read-judged, commit-judged}
 use Rattle.rules.specs.Kept.{BeginAsked, WriteAsked, ReadAsked, ShowAsked, CommitAsked, GiveUpAsked, PostAsked, OrderAsked, CloseAsked}
 use Rattle.rules.proofs.Asked.{begin-asked, write-asked, read-asked, show-asked, commit-asked, give-up-asked, post-asked, order-asked, close-asked}

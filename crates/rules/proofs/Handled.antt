@@ -12,8 +12,9 @@ use Rattle.rules.specs.Handles.{place-of}
 use Rattle.rules.specs.Judging.{HasCycle}
 use Rattle.rules.specs.Numbers.{granted, conflict, Reason, first-reason}
 use Rattle.rules.specs.Daylog.{filled}
-use Rattle.rules.specs.State.{State, Outcome, refused, unless-refused}
-use Rattle.rules.specs.Steps.{record-at, Judged, books-granted, read-rule}
+use Rattle.rules.specs.State.{State, Outcome, refused, unless-refused, record-at}
+use Rattle.rules.specs.Judged.{Judged, books-granted}
+use Rattle.rules.specs.Steps.{read-rule}
 use Rattle.rules.specs.Calls.{Call, Read, issued, reasons-of, owns, IsJudged, read-judged, commit-judged}
 use Rattle.rules.specs.Kept.{LiveCaller}
 use Rattle.rules.specs.Run.{Machine, lends, outcome}

@@ -1,26 +1,25 @@
 -- What is known of any judged call that nothing refuses: the caller is live, the place that it would leave holds the same transaction and fits, and
 -- its record and that of its Conflict are of the right kinds. Rests on what is asked of the calls that are judged. Assumes nothing.
 use Prim.Native.Nat.{ℕ, _<_}
-use mathlib.Core.Path.{_≡_, refl, _∙_, ap}
-use mathlib.Core.Logic.{⊎-elim}
-use mathlib.Core.Bool.{Bool, true, false, cond, _&&_}
+use mathlib.Core.Path.{_≡_, refl, ap}
+use mathlib.Core.Bool.{Bool, true, false, cond}
 use lib.ListN.{length}
-use lib.Dec.{ltb, leb, eqb}
+use lib.Dec.{ltb, eqb}
 use native.Mathlib.Omega.{arith}
-use borrow.Author.Tests.{ltb-true, lt-ltb}
+use borrow.Author.Tests.{lt-ltb}
 use Rattle.basics.specs.Bytes.{same}
 use Rattle.rules.specs.Sizes.{Size, Within, cell-bytes, width}
 use Rattle.rules.specs.Books.{Books, Shaped, place-at, held-status, is-held, read-marked, sealed}
 use Rattle.rules.specs.Handles.{place-of}
-use Rattle.rules.specs.Daylog.{lowest-kind, highest-kind, give-up-kind, read-conflict-kind, commit-conflict-kind, kind-starts, kind-commits, kind-conflict, kind-frees, kind-writes, kind-judged-read, kind-own-read, kind-judged, kind-has-cell, kind-has-value, granted-kind, no-value}
+use Rattle.rules.specs.Kinds.{kind-starts, kind-conflict, kind-frees, kind-has-cell, kind-has-value, granted-kind}
+use Rattle.rules.specs.Daylog.{no-value}
 use Rattle.rules.specs.State.{State}
-use Rattle.rules.specs.Steps.{Judged}
+use Rattle.rules.specs.Judged.{Judged}
 use Rattle.rules.specs.Calls.{Call, Lending, owns, IsJudged, read-judged, commit-judged}
 use Rattle.rules.specs.Kept.{LiveCaller}
 use Rattle.rules.proofs.CellLaws.{cell-length}
 use Rattle.rules.proofs.EachCall.{AskedOf}
 use Rattle.rules.proofs.Handles.{place-of-below}
-use Rattle.rules.proofs.KindLaws.{FreesOnly, frees-only}
 use Rattle.rules.proofs.Shape.{Wide, wide-read-marked, wide-sealed, shaped-wide}
 use Rattle.rules.proofs.SoundStep.{Fits}
 use Rattle.rules.proofs.SoundAfter.{fits-read-marked, fits-sealed}

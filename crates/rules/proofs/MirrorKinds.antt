@@ -18,7 +18,7 @@ use Rattle.rules.specs.Sizes.{Size, width}
 use Rattle.rules.specs.Books.{wrote, first-read, last-read, no-cells, no-reads, freed, begun, posted, marked, read-marked, sealed}
 use Rattle.rules.specs.Kinds.{begin-kind, judged-read-kind, own-read-kind, write-kind, commit-kind, post-kind, kind-starts, kind-commits, kind-writes, kind-frees, kind-judged-read}
 use Rattle.rules.specs.Daylog.{no-value}
-use Rattle.rules.specs.Steps.{record-at}
+use Rattle.rules.specs.State.{record-at}
 use Rattle.rules.specs.Layout.{moved, seat}
 use Rattle.rules.specs.Day.{events}
 use Rattle.rules.proofs.Mirror.{Mirrors, Holds}

@@ -2,7 +2,6 @@
 -- still do, and so the books do. Stated for any record and any new places, then for a change of its place alone. Assumes nothing.
 use Prim.Native.Nat.{ℕ, suc, _+_, _≤_, _<_}
 use mathlib.Core.Path.{_≡_, refl, sym, _∙_, ap, subst}
-use mathlib.Core.Logic.{⊎-elim}
 use mathlib.Core.Bool.{Bool, true, false, cond, _&&_, _||_}
 use mathlib.Core.List.{List, [], _∷_}
 use lib.ListN.{length}
@@ -16,7 +15,7 @@ use Rattle.rules.specs.declared.Record.{Record}
 use Rattle.rules.specs.Sizes.{Size}
 use Rattle.rules.specs.Books.{Books, Shaped, place-at, is-committed, is-held, wrote, first-read, last-read}
 use Rattle.rules.specs.Sound.{Sound}
-use Rattle.rules.specs.Daylog.{kind-starts, kind-commits, kind-writes, kind-judged-read}
+use Rattle.rules.specs.Kinds.{kind-starts, kind-commits, kind-writes, kind-judged-read}
 use Rattle.rules.specs.Layout.{Seat, moved, seat, fits, fields-right, walks}
 use Rattle.rules.specs.Day.{Event, whose, event, events, latest, commit-of, committed, wrote-cell}
 use Rattle.rules.proofs.Mirror.{earliest, reads-it, Holds, Mirrors, HeldCommitted, CommittedAreHeld, Mirrored}

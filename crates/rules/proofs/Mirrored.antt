@@ -3,7 +3,7 @@
 use Prim.Native.Nat.{ℕ, suc, _<_}
 use mathlib.Core.Path.{_≡_, refl, sym, _∙_, ap, subst}
 use mathlib.Core.Logic.{⊎-elim, Iff·rfl}
-use mathlib.Core.Bool.{true, false, cond, _&&_, _||_}
+use mathlib.Core.Bool.{true, false, cond, _&&_}
 use mathlib.Core.List.{List, [], _∷_}
 use lib.ListN.{length}
 use lib.Dec.{ltb, leb, eqb}
@@ -16,14 +16,16 @@ use Rattle.basics.proofs.Says.{not-says, if-says}
 use Rattle.rules.specs.declared.Place.{Place}
 use Rattle.rules.specs.declared.Record.{Record}
 use Rattle.rules.specs.Sizes.{Size, Within, width}
-use Rattle.rules.specs.Books.{Books, Shaped, place-at, wrote, freed, begun, posted, marked, with-place, with-record, no-place, opened, closed, lowest-free}
+use Rattle.rules.specs.Books.{Books, Shaped, place-at, wrote, freed, begun, posted, marked, with-place, with-record, no-place, opened, closed, lowest-free, number-of}
 use Rattle.rules.specs.Handles.{place-of}
 use Rattle.rules.specs.Sound.{Sound}
 use Rattle.rules.specs.Cells.{draft-of}
-use Rattle.rules.specs.Daylog.{lowest-kind, highest-kind, begin-kind, judged-read-kind, own-read-kind, write-kind, commit-kind, give-up-kind, read-conflict-kind, commit-conflict-kind, post-kind, kind-starts, kind-frees, kind-own-read, kind-table-read, kind-has-cell, kind-has-value, no-value}
+use Rattle.rules.specs.Kinds.{lowest-kind, highest-kind, begin-kind, judged-read-kind, own-read-kind, write-kind, commit-kind, give-up-kind, read-conflict-kind, commit-conflict-kind, post-kind, kind-starts, kind-frees, kind-own-read, kind-table-read, kind-has-cell, kind-has-value}
+use Rattle.rules.specs.Daylog.{no-value}
 use Rattle.rules.specs.Layout.{seat, fits, fields-right, walks}
-use Rattle.rules.specs.State.{Outcome, refused, recorded}
-use Rattle.rules.specs.Steps.{number-of, record-at, Judged, books-granted, granted-of, turned-back, own-read-of, open-rule, begin-of, write-of, show-of, give-up-of, post-of, order-of, close-of}
+use Rattle.rules.specs.State.{Outcome, refused, recorded, record-at}
+use Rattle.rules.specs.Judged.{Judged, books-granted, granted-of, turned-back}
+use Rattle.rules.specs.Steps.{own-read-of, open-rule, begin-of, write-of, show-of, give-up-of, post-of, order-of, close-of}
 use Rattle.rules.specs.Calls.{Call, Lending, owns, IsJudged, read-judged, commit-judged}
 use Rattle.rules.specs.Kept.{LiveCaller, BeginAsked, WriteAsked, ReadAsked, PostAsked}
 use Rattle.rules.specs.Run.{Machine, lends, outcome, new-day, moved-on, after-call}

@@ -7,8 +7,8 @@ use Rattle.basics.proofs.Bytes.{zeros-are-bytes}
 use Rattle.rules.specs.Sizes.{Size, table-bytes, drafts-bytes}
 use Rattle.rules.specs.Books.{Books, opened, closed}
 use Rattle.rules.specs.Numbers.{granted}
-use Rattle.rules.specs.State.{refused}
-use Rattle.rules.specs.Steps.{with-books, open-rule, close-rule, close-of}
+use Rattle.rules.specs.State.{refused, with-books}
+use Rattle.rules.specs.Steps.{open-rule, close-rule, close-of}
 use Rattle.rules.specs.Calls.{Open, Close, issued}
 use Rattle.rules.specs.Run.{Machine, outcome, new-day, moved-on, after-call, fresh}
 use Rattle.rules.specs.Runs.{DayStarts, Starts, DaysFollow}

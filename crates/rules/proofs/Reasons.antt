@@ -16,7 +16,8 @@ use Rattle.rules.specs.Books.{place-at, wrote}
 use Rattle.rules.specs.Handles.{place-of}
 use Rattle.rules.specs.Numbers.{granted, conflict, Reason, first-reason}
 use Rattle.rules.specs.State.{State, Outcome, refused, unless-refused, recorded}
-use Rattle.rules.specs.Steps.{show-reasons, order-reasons, Judged, books-granted, granted-of, turned-back, meets-conflict, judged-of, own-read-of, judged-read-of, open-rule, begin-rule, write-rule, read-rule, show-rule, commit-rule, give-up-rule, post-rule, order-rule, close-rule, begin-of, write-of, read-of, show-of, give-up-of, post-of, order-of, close-of}
+use Rattle.rules.specs.Judged.{Judged, books-granted, granted-of, turned-back, meets-conflict, judged-of}
+use Rattle.rules.specs.Steps.{show-reasons, order-reasons, own-read-of, judged-read-of, open-rule, begin-rule, write-rule, read-rule, show-rule, commit-rule, give-up-rule, post-rule, order-rule, close-rule, begin-of, write-of, read-of, show-of, give-up-of, post-of, order-of, close-of}
 use Rattle.rules.specs.Calls.{Call, Open, Begin, Write, Read, Show, Commit, GiveUp, Post, Order, Close, Lending, issued}
 use Rattle.rules.specs.Run.{Machine, moved-on, after-call}
 use Rattle.rules.specs.Statements.{Looks, ChangesNothing, RefusalsChangeNothing, ResultsUnique}

@@ -14,9 +14,11 @@ use Rattle.rules.specs.Sizes.{Size, Within}
 use Rattle.rules.specs.Books.{Books, place-at, is-held}
 use Rattle.rules.specs.Handles.{place-of}
 use Rattle.rules.specs.Judging.{has-cycle}
-use Rattle.rules.specs.Daylog.{kind-conflict, kind-judged-read, kind-judged, kind-has-value, no-value}
-use Rattle.rules.specs.State.{State, refused, recorded}
-use Rattle.rules.specs.Steps.{record-at, Judged, books-granted, granted-of, turned-back, open-rule, begin-of, write-of, own-read-of, show-of, give-up-of, post-of, order-of, close-of}
+use Rattle.rules.specs.Kinds.{kind-conflict, kind-judged-read, kind-judged, kind-has-value}
+use Rattle.rules.specs.Daylog.{no-value}
+use Rattle.rules.specs.State.{State, refused, recorded, record-at}
+use Rattle.rules.specs.Judged.{Judged, books-granted, granted-of, turned-back}
+use Rattle.rules.specs.Steps.{open-rule, begin-of, write-of, own-read-of, show-of, give-up-of, post-of, order-of, close-of}
 use Rattle.rules.specs.Calls.{Call, Lending, owns, IsJudged}
 use Rattle.rules.specs.Run.{Machine, lends, outcome, new-day, moved-on, after-call, played}
 use Rattle.rules.specs.Layout.{walks, EachRecord}

@@ -20,7 +20,8 @@ use Rattle.rules.specs.Judging.{HasCycle, has-cycle, given-order}
 use Rattle.rules.specs.Numbers.{granted, conflict, no-order, first-reason}
 use Rattle.rules.specs.State.{Outcome, buffer-after, recorded, refused, unless-refused}
 use Rattle.rules.specs.Calls.{Order, issued}
-use Rattle.rules.specs.Steps.{soundness-reason, granted-of, order-reasons, order-of, order-rule}
+use Rattle.rules.specs.Judged.{granted-of}
+use Rattle.rules.specs.Steps.{soundness-reason, order-reasons, order-of, order-rule}
 use Rattle.rules.specs.Kept.{LiveCaller}
 use Rattle.rules.specs.Run.{Machine, lends, outcome, new-day, moved-on, after-call}
 use Rattle.rules.specs.Day.{events, is-transaction}

@@ -9,13 +9,14 @@ use borrow.Author.Tests.{lt-leb, eq-eqb}
 use Rattle.basics.proofs.Bools.{or-fails}
 use Rattle.rules.specs.declared.Place.{Place}
 use Rattle.rules.specs.Sizes.{Size, Within, table-bytes, drafts-bytes, handles}
-use Rattle.rules.specs.Books.{Books, Shaped, place-at, wrote, read-marked, with-record}
+use Rattle.rules.specs.Books.{Books, Shaped, place-at, wrote, read-marked, with-record, number-of}
 use Rattle.rules.specs.Handles.{place-of, out-of-range, turn-agrees, reads, asks-live, is-stale, is-ended}
 use Rattle.rules.specs.Sound.{Sound}
 use Rattle.rules.specs.Cells.{cell-of, draft-of}
 use Rattle.rules.specs.Numbers.{granted, first-reason}
 use Rattle.rules.specs.State.{State, Outcome, shown-bytes, shown-draft, shown-cell, refused, recorded, unless-refused}
-use Rattle.rules.specs.Steps.{number-of, books-granted, granted-of, turned-back, own-read-of, judged-read, read-of, read-rule, soundness-reason, handle-reasons, cell-reason, handle-cell-reasons, show-reasons, show-rule, show-of}
+use Rattle.rules.specs.Judged.{books-granted, granted-of, turned-back}
+use Rattle.rules.specs.Steps.{own-read-of, judged-read, read-of, read-rule, soundness-reason, handle-reasons, cell-reason, handle-cell-reasons, show-reasons, show-rule, show-of}
 use Rattle.rules.specs.Calls.{Show, Lending, issued, read-judged}
 use Rattle.rules.specs.Kept.{LiveCaller, ReadAsked, ShowAsked, ShowsRecorded, ShownIsRecorded}
 use Rattle.rules.proofs.Asked.{read-asked}

@@ -7,7 +7,8 @@ use Rattle.rules.specs.Books.{Books, Shaped, place-at, freed, with-place
 use Rattle.rules.specs.Sound.{SoundPlace, Sound}
 use Rattle.rules.specs.Handles.{place-of}
 use Rattle.rules.specs.State.{State, refused, recorded}
-use Rattle.rules.specs.Steps.{Judged, books-granted, granted-of, turned-back, own-read-of, open-rule, begin-of, write-of, show-of, give-up-of, post-of, order-of, close-of}
+use Rattle.rules.specs.Judged.{Judged, books-granted, granted-of, turned-back}
+use Rattle.rules.specs.Steps.{own-read-of, open-rule, begin-of, write-of, show-of, give-up-of, post-of, order-of, close-of}
 use Rattle.rules.specs.Calls.{Call, Lending, issued}
 use Rattle.rules.specs.Kept.{LiveCaller, SoundnessKept}
 use Rattle.rules.proofs.Asked.{lowest-is-free}

@@ -12,9 +12,11 @@ use Rattle.rules.specs.Sizes.{Size, Within, handles-a-turn}
 use Rattle.rules.specs.Books.{Books, place-at, wrote}
 use Rattle.rules.specs.Handles.{handle-of, place-of}
 use Rattle.rules.specs.Numbers.{granted, conflict}
-use Rattle.rules.specs.Daylog.{AllProper, begin-kind, judged-read-kind, own-read-kind, write-kind, commit-kind, give-up-kind, read-conflict-kind, commit-conflict-kind, post-kind, no-value, trailer, commit-total, day-bytes, standing, records-in, day-of, filled}
-use Rattle.rules.specs.State.{State, Outcome, Entry, nothing, adds, closes, opens, entry-bytes, refused, recorded}
-use Rattle.rules.specs.Steps.{record-at, Judged, granted-of, turned-back, own-read-of, judged-read, open-rule, begin-of, write-of, show-of, give-up-of, post-of, order-of, close-of, close-rule}
+use Rattle.rules.specs.Kinds.{begin-kind, judged-read-kind, own-read-kind, write-kind, commit-kind, give-up-kind, read-conflict-kind, commit-conflict-kind, post-kind}
+use Rattle.rules.specs.Daylog.{AllProper, no-value, trailer, commit-total, day-bytes, standing, records-in, day-of, filled}
+use Rattle.rules.specs.State.{State, Outcome, Entry, nothing, adds, closes, opens, entry-bytes, refused, recorded, record-at}
+use Rattle.rules.specs.Judged.{Judged, granted-of, turned-back}
+use Rattle.rules.specs.Steps.{own-read-of, judged-read, open-rule, begin-of, write-of, show-of, give-up-of, post-of, order-of, close-of, close-rule}
 use Rattle.rules.specs.Calls.{Call, Open, Begin, Write, Read, Show, Commit, GiveUp, Post, Order, Close, issued, handed-on, owns, IsJudged, read-judged, commit-judged}
 use Rattle.rules.specs.Kept.{LiveCaller, ShowsRecorded}
 use Rattle.rules.specs.Layout.{well-laid-out}

@@ -11,7 +11,8 @@ use Rattle.rules.specs.Judging.{latest-read, moment, company, real-time,
 use Rattle.rules.specs.Numbers.{first-reason}
 use Rattle.rules.specs.Cells.{cell-of, with-cell, draft-of, with-draft, laid-over}
 use Rattle.rules.specs.State.{refused, unless-refused, recorded}
-use Rattle.rules.specs.Steps.{soundness-reason, handle-reasons, cell-reason, handle-cell-reasons, room-reason, books-granted, granted-of, turned-back, meets-conflict, judged-of, begin-reasons, begin-rule, write-reasons, write-rule, read-reasons, own-read-of, read-rule, commit-reasons, commit-rule, order-reasons, order-rule, begin-of, write-of, read-of, order-of}
+use Rattle.rules.specs.Judged.{books-granted, granted-of, turned-back, meets-conflict, judged-of}
+use Rattle.rules.specs.Steps.{soundness-reason, handle-reasons, cell-reason, handle-cell-reasons, room-reason, begin-reasons, begin-rule, write-reasons, write-rule, read-reasons, own-read-of, read-rule, commit-reasons, commit-rule, order-reasons, order-rule, begin-of, write-of, read-of, order-of}
 use Rattle.rules.specs.Calls.{issued}
 use Rattle.rules.specs.Run.{outcome, new-day, moved-on, after-call, played, fresh}
 use Rattle.rules.specs.Trials.{Trials}

@@ -10,7 +10,8 @@ use Rattle.rules.specs.Books.{place-at, wrote}
 use Rattle.rules.specs.Handles.{place-of}
 use Rattle.rules.specs.Numbers.{Reason, first-reason}
 use Rattle.rules.specs.State.{State, Outcome, state-of, refused, unless-refused, recorded}
-use Rattle.rules.specs.Steps.{Judged, granted-of, turned-back, judged-of, own-read-of, judged-read, judged-read-of, judged-commit, judged-commit-of, open-rule, begin-rule, write-rule, read-rule, show-rule, commit-rule, give-up-rule, post-rule, order-rule, close-rule, begin-of, write-of, read-of, show-of, give-up-of, post-of, order-of, close-of}
+use Rattle.rules.specs.Judged.{Judged, granted-of, turned-back, judged-of}
+use Rattle.rules.specs.Steps.{own-read-of, judged-read, judged-read-of, judged-commit, judged-commit-of, open-rule, begin-rule, write-rule, read-rule, show-rule, commit-rule, give-up-rule, post-rule, order-rule, close-rule, begin-of, write-of, read-of, show-of, give-up-of, post-of, order-of, close-of}
 use Rattle.rules.specs.Calls.{Call, Open, Begin, Write, Read, Show, Commit, GiveUp, Post, Order, Close, Lending, issued}
 use Rattle.rules.specs.Kept.{AsLent, NeitherLent, Unlent}
 use Rattle.rules.proofs.EachCall.{refused-or, one-of}

@@ -7,11 +7,13 @@ use native.Mathlib.Omega.{arith}
 use Rattle.basics.specs.Bytes.{AreBytes}
 use Rattle.rules.specs.declared.Place.{Place}
 use Rattle.rules.specs.Sizes.{Size, Within, width}
-use Rattle.rules.specs.Books.{Books, place-at, freed, begun, with-place, opened, closed, lowest-free}
+use Rattle.rules.specs.Books.{Books, place-at, freed, begun, with-place, opened, closed, lowest-free, number-of}
 use Rattle.rules.specs.Handles.{place-of}
-use Rattle.rules.specs.Daylog.{begin-kind, give-up-kind, no-value, kind-commits, kind-frees, kind-writes, kind-judged-read, kind-own-read}
-use Rattle.rules.specs.State.{State, Outcome, adds, refused, recorded}
-use Rattle.rules.specs.Steps.{with-books, record-at, number-of, Judged, granted-of, turned-back, open-rule, begin-of, show-of, give-up-of, order-of, close-of}
+use Rattle.rules.specs.Kinds.{begin-kind, give-up-kind, kind-commits, kind-frees, kind-writes, kind-judged-read, kind-own-read}
+use Rattle.rules.specs.Daylog.{no-value}
+use Rattle.rules.specs.State.{State, Outcome, adds, refused, recorded, with-books, record-at}
+use Rattle.rules.specs.Judged.{Judged, granted-of, turned-back}
+use Rattle.rules.specs.Steps.{open-rule, begin-of, show-of, give-up-of, order-of, close-of}
 use Rattle.rules.specs.Calls.{Call, Lending, owns, IsJudged, read-judged, commit-judged}
 use Rattle.rules.specs.Kept.{LiveCaller, BeginAsked}
 use Rattle.rules.specs.Run.{Machine, new-day, moved-on, after-call}

@@ -105,6 +105,10 @@ place-at b i = getD (b .places) i no-place
 abbrev pub books-of : ℕ → List Place → Books
 books-of records places = record { records = records; places = places }
 
+-- the record that a call adds has this number
+abbrev pub number-of : Books → ℕ
+number-of b = b .records + 1
+
 -- books with these places, for what does not depend on the record count
 abbrev pub of-places : List Place → Books
 of-places places = books-of 0 places

@@ -9,7 +9,8 @@ use Rattle.rules.specs.Books.{Books, place-at, wrote}
 use Rattle.rules.specs.Handles.{place-of}
 use Rattle.rules.specs.Numbers.{Reason, granted}
 use Rattle.rules.specs.State.{State, Outcome}
-use Rattle.rules.specs.Steps.{begin-reasons, write-reasons, read-reasons, show-reasons, commit-reasons, give-up-reasons, post-reasons, order-reasons, close-reasons, Judged, judged-read, judged-commit, open-rule, begin-rule, write-rule, read-rule, show-rule, commit-rule, give-up-rule, post-rule, order-rule, close-rule}
+use Rattle.rules.specs.Judged.{Judged}
+use Rattle.rules.specs.Steps.{begin-reasons, write-reasons, read-reasons, show-reasons, commit-reasons, give-up-reasons, post-reasons, order-reasons, close-reasons, judged-read, judged-commit, open-rule, begin-rule, write-rule, read-rule, show-rule, commit-rule, give-up-rule, post-rule, order-rule, close-rule}
 
 -- the ten calls, with a handle, a cell, a value, or the number that a read gave
 pub data Call : Type 0 where

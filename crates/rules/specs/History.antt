@@ -13,7 +13,7 @@ use Rattle.basics.specs.Lists.{member, distinct}
 use Rattle.rules.specs.declared.Record.{Record}
 use Rattle.rules.specs.Sizes.{Size}
 use Rattle.rules.specs.Cells.{cell-of}
-use Rattle.rules.specs.Daylog.{kind-commits, kind-conflict, kind-frees, kind-writes, kind-judged-read, kind-own-read, kind-has-value, granted-kind}
+use Rattle.rules.specs.Kinds.{kind-commits, kind-conflict, kind-frees, kind-writes, kind-judged-read, kind-own-read, kind-has-value, granted-kind}
 use Rattle.rules.specs.Layout.{walks}
 use Rattle.rules.specs.Day.{Event, events, is-transaction, wrote-cell, written-value, company-of}
 use Rattle.rules.specs.Checker.{accepted}

@@ -7,6 +7,7 @@ pub mod Day
 pub mod Daylog
 pub mod Handles
 pub mod History
+pub mod Judged
 pub mod Judging
 pub mod Kept
 pub mod Kinds

@@ -4,7 +4,7 @@
 use Prim.Native.Nat.{ℕ, _+_}
 use mathlib.Core.Path.{_≡_}
 use mathlib.Core.Logic.{_↔_, _⊎_}
-use mathlib.Core.Bool.{Bool, true, false, cond}
+use mathlib.Core.Bool.{Bool, true, cond}
 use mathlib.Core.List.{List, [], _∷_, _++_, List·Memᴰ}
 use lib.ListN.{length, take}
 use lib.Dec.{eqb}
@@ -16,9 +16,10 @@ use Rattle.rules.specs.Sizes.{Size, Within, table-bytes, drafts-bytes, o
 use Rattle.rules.specs.Books.{Books, Shaped, opened, closed}
 use Rattle.rules.specs.Handles.{handle-of, place-of, turn-of, good-handle}
 use Rattle.rules.specs.Numbers.{granted, conflict, no-order}
-use Rattle.rules.specs.Daylog.{begin-kind, judged-read-kind, own-read-kind, write-kind, commit-kind, give-up-kind, read-conflict-kind, commit-conflict-kind, post-kind, kind-starts, no-value, filled, day-bytes, standing, records-in, day-of}
+use Rattle.rules.specs.Kinds.{begin-kind, judged-read-kind, own-read-kind, write-kind, commit-kind, give-up-kind, read-conflict-kind, commit-conflict-kind, post-kind, kind-starts}
+use Rattle.rules.specs.Daylog.{no-value, filled, day-bytes, standing, records-in, day-of}
 use Rattle.rules.specs.State.{Outcome, entry-bytes, shown-bytes, buffer-after}
-use Rattle.rules.specs.Steps.{Judged}
+use Rattle.rules.specs.Judged.{Judged}
 use Rattle.rules.specs.Calls.{Call, Open, Begin, Write, Read, Show, Commit, GiveUp, Post, Order, Close, IsJudged}
 use Rattle.rules.specs.Run.{Machine, outcome, new-day, after-call, played, fresh}
 use Rattle.rules.specs.Layout.{seat, well-laid-out}

@@ -4,12 +4,13 @@ use mathlib.Core.Bool.{cond}
 use mathlib.Core.List.{List, []}
 use lib.Dec.{eqb}
 use Rattle.basics.specs.Bytes.{part, splice}
+use Rattle.rules.specs.declared.Place.{Place}
 use Rattle.rules.specs.declared.Record.{Record}
 use Rattle.rules.specs.Sizes.{Size, cell-bytes, record-bytes}
 use Rattle.rules.specs.Books.{Books}
 use Rattle.rules.specs.Numbers.{Reason, first-reason}
 use Rattle.rules.specs.Cells.{draft-cell}
-use Rattle.rules.specs.Daylog.{encode, trailer}
+use Rattle.rules.specs.Daylog.{filled, encode, trailer}
 
 -- the books, and the lent table and drafts (a buffer that a call is not lent is of no concern to its rule)
 pub record State : Type 0 where
@@ -20,6 +21,10 @@ pub record State : Type 0 where
 -- the state of a call by its books and what it is lent; a buffer that it is not lent stands as []
 abbrev pub state-of : Books → List ℕ → List ℕ → State
 state-of b table drafts = record { books = b; table = table; drafts = drafts }
+
+-- the state with other books
+abbrev pub with-books : State → Books → State
+with-books s b = record { books = b; table = s .table; drafts = s .drafts }
 
 -- what a call means for the day: nothing; one record more; its end, with a trailer for so many records and commits; freshly opened books
 pub data Entry : Type 0 where
@@ -88,3 +93,7 @@ unless-refused reasons s outcome = let n = first-reason reasons in cond (eqb n 0
 -- an outcome with a number, an answer and one record
 unfoldable pub recorded : ℕ → ℕ → State → Record → Outcome
 recorded n answer s r = record { number = n; answer = answer; order = []; shown = empty; after = s; entry = adds r }
+
+-- a record of a kind at a place, with the place's turn
+abbrev pub record-at : ℕ → ℕ → Place → ℕ → List ℕ → Record
+record-at kind i p c value = filled kind i c (p .turn) value

@@ -16,9 +16,9 @@ use Rattle.rules.specs.Sound.{sound, Sound}
 use Rattle.rules.specs.Judging.{stands-before, company, has-cycle, HasCycle, given-places}
 use Rattle.rules.specs.Numbers.{granted, conflict, first-reason}
 use Rattle.rules.specs.Daylog.{Proper, AllProper, no-value, encode, decode, standing, records-in, day-of}
-use Rattle.rules.specs.State.{State, Outcome, nothing, adds, empty}
+use Rattle.rules.specs.State.{State, Outcome, nothing, adds, empty, record-at}
 use Rattle.rules.specs.Layout.{walks, well-laid-out, WellLaidOut}
-use Rattle.rules.specs.Steps.{record-at, Judged, books-granted}
+use Rattle.rules.specs.Judged.{Judged, books-granted}
 use Rattle.rules.specs.Calls.{Call, Show, Order, Lending, issued, reasons-of, handed-on, owns, IsJudged}
 use Rattle.rules.specs.Run.{Machine, after-call}
 

@@ -1,34 +1,22 @@
 -- Document 01, "Step rules" and "Numbers given back": each call's reasons in the order of their numbers, and what it does if none applies.
 -- Reasons look at the books and at the lengths of what is lent, never at its bytes.
 use Prim.Native.Nat.{ℕ, _+_}
-use mathlib.Core.Bool.{Bool, not, cond, _||_}
+use mathlib.Core.Bool.{not, cond, _||_}
 use mathlib.Core.List.{List, [], _∷_, _++_}
 use lib.ListN.{length}
 use lib.Dec.{ltb, leb, eqb}
 use Rattle.basics.specs.Below.{anyBelow}
-use Rattle.rules.specs.declared.Place.{Place}
-use Rattle.rules.specs.declared.Record.{Record}
 use Rattle.rules.specs.Sizes.{Size, cell-bytes, table-bytes, drafts-bytes, log-bytes, order-numbers, most-records}
-use Rattle.rules.specs.Books.{Books, place-at, is-live, wrote, freed, begun, posted, marked, read-marked, sealed, with-place, with-record, opened, closed, lowest-free, no-free, live-count}
+use Rattle.rules.specs.Books.{Books, place-at, is-live, wrote, freed, begun, posted, marked, read-marked, sealed, with-place, with-record, number-of, opened, closed, lowest-free, no-free, live-count}
 use Rattle.rules.specs.Handles.{handle-of, place-of, Caller, reads, writes, commits, gives-up, orders, is-stale, is-ended}
 use Rattle.rules.specs.Sound.{sound}
 use Rattle.rules.specs.Judging.{has-cycle, given-order}
-use Rattle.rules.specs.Numbers.{granted, lent, unsound, stale, ended, no-cell, full, log-full, busy, conflict, Reason, _if_, wrong}
+use Rattle.rules.specs.Numbers.{granted, lent, unsound, stale, ended, no-cell, full, log-full, busy, Reason, _if_, wrong}
 use Rattle.rules.specs.Cells.{cell-of, with-cell, draft-of, with-draft, laid-over}
-use Rattle.rules.specs.Daylog.{begin-kind, judged-read-kind, own-read-kind, write-kind, commit-kind, give-up-kind, read-conflict-kind, commit-conflict-kind, post-kind, no-value, filled}
-use Rattle.rules.specs.State.{State, empty, Outcome, nothing, closes, opens, unless-refused, recorded, shown-draft, shown-cell}
-
--- the state with other books
-abbrev pub with-books : State → Books → State
-with-books s b = record { books = b; table = s .table; drafts = s .drafts }
-
--- the record that a call adds has this number
-abbrev pub number-of : Books → ℕ
-number-of b = b .records + 1
-
--- a record of a kind at a place, with the place's turn
-abbrev pub record-at : ℕ → ℕ → Place → ℕ → List ℕ → Record
-record-at kind i p c value = filled kind i c (p .turn) value
+use Rattle.rules.specs.Kinds.{begin-kind, judged-read-kind, own-read-kind, write-kind, commit-kind, give-up-kind, read-conflict-kind, commit-conflict-kind, post-kind}
+use Rattle.rules.specs.Daylog.{no-value}
+use Rattle.rules.specs.State.{State, empty, Outcome, nothing, closes, opens, unless-refused, recorded, shown-draft, shown-cell, with-books, record-at}
+use Rattle.rules.specs.Judged.{Judged, judged-of}
 
 -- ---- reasons that several calls share
 
@@ -51,45 +39,6 @@ handle-cell-reasons z who b h c = soundness-reason z b ∷ (handle-reasons z who
 -- 7: records after the call plus live ones after it would pass 4,000
 unfoldable pub room-reason : ℕ → ℕ → Reason
 room-reason records-after live-after = log-full if ltb most-records (records-after + live-after)
-
--- ---- a judged call
-
--- what is weighed of a judged call, counted as granted
-pub record Judged : Type 0 where
-  -- the record that it adds: kind, cell and value
-  pub kind : ℕ
-  pub cell : ℕ
-  pub value : List ℕ
-  -- the caller's place, the table and the drafts then
-  pub place : Place
-  pub table : List ℕ
-  pub drafts : List ℕ
-  -- the kind of its Conflict
-  pub back : ℕ
-
--- the books as they would be if it were granted
-unfoldable pub books-granted : Books → ℕ → Judged → Books
-books-granted b i j = with-place b i (j .place)
-
--- granted: one record more, and place, table and drafts as weighed
-unfoldable pub granted-of : State → ℕ → Judged → Outcome
-granted-of s i j =
-    recorded granted 0 (record { books = books-granted (s .books) i j; table = j .table; drafts = j .drafts })
-    (record-at (j .kind) i (place-at (s .books) i) (j .cell) (j .value))
-
--- Conflict ends the caller's transaction, frees its place and adds one record
-unfoldable pub turned-back : State → ℕ → ℕ → ℕ → Outcome
-turned-back s kind i c =
-    let p = place-at (s .books) i in
-    recorded conflict 0 (with-books s (with-place (s .books) i (freed p))) (record-at kind i p c no-value)
-
--- Conflict exactly if the pairs contain a cycle; that the test says so is the theorem `given-orders` (`cycle-told`)
-unfoldable pub meets-conflict : Size → Books → ℕ → Bool
-meets-conflict z b i = has-cycle z b i
-
--- a judged call is weighed with itself counted as granted, in the books as they would then be
-unfoldable pub judged-of : Size → State → ℕ → Judged → Outcome
-judged-of z s i j = cond (meets-conflict z (books-granted (s .books) i j) i) (turned-back s (j .back) i (j .cell)) (granted-of s i j)
 
 -- ---- Open gives books with every place free, turns 0, no records. It never refuses.
 

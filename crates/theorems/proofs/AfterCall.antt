@@ -13,7 +13,8 @@ use Rattle.rules.specs.Numbers.{granted, conflict}
 use Rattle.rules.specs.State.{State, Entry, nothing, adds, closes, opens, Outcome, refused, recorded}
 use Rattle.rules.specs.Calls.{Call, Open, Begin, Write, Read, Show, Commit, GiveUp, Post, Order, Close, issued, handed-on, IsJudged, read-judged, commit-judged}
 use Rattle.rules.specs.Handles.{place-of}
-use Rattle.rules.specs.Steps.{Judged, granted-of, turned-back, open-rule, begin-of, write-of, own-read-of, show-of, give-up-of, post-of, order-of, close-of}
+use Rattle.rules.specs.Judged.{Judged, granted-of, turned-back}
+use Rattle.rules.specs.Steps.{open-rule, begin-of, write-of, own-read-of, show-of, give-up-of, post-of, order-of, close-of}
 use Rattle.rules.specs.Run.{Machine, lends, outcome, new-day, moved-on, after-call}
 use Rattle.rules.proofs.EachCall.{EachOutcome, each-call}
 use Rattle.rules.proofs.Judging.{order-length}

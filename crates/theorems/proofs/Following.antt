@@ -15,7 +15,8 @@ use Rattle.rules.specs.Numbers.{granted}
 use Rattle.rules.specs.Daylog.{commits-in}
 use Rattle.rules.specs.State.{State, Outcome, state-of, log-after, buffer-after}
 use Rattle.rules.specs.Calls.{Call, Open, Begin, Write, Read, Show, Commit, GiveUp, Post, Order, Close, issued, IsJudged, read-judged, commit-judged}
-use Rattle.rules.specs.Steps.{Judged, open-rule}
+use Rattle.rules.specs.Judged.{Judged}
+use Rattle.rules.specs.Steps.{open-rule}
 use Rattle.rules.specs.Run.{Machine, lends, outcome, new-day, after-call}
 use Rattle.rules.specs.Kept.{Joined}
 use Rattle.rules.specs.Runs.{value-taken, told, told-call, shown-behind, shown-on}

@@ -14,7 +14,7 @@ use Rattle.rules.specs.Handles.{good-handle}
 use Rattle.rules.specs.Numbers.{granted, conflict, no-order}
 use Rattle.rules.specs.Daylog.{standing, records-in, day-of}
 use Rattle.rules.specs.State.{state-of}
-use Rattle.rules.specs.Steps.{Judged}
+use Rattle.rules.specs.Judged.{Judged}
 use Rattle.rules.specs.Calls.{Call, IsJudged}
 use Rattle.rules.specs.Day.{events}
 use Rattle.rules.specs.Checker.{checked}
