@@ -8,9 +8,8 @@ use lib.Dec.{leb, eqb}
 use native.Mathlib.Omega.{arith}
 use borrow.Author.Tests.{ltb-false, leb-false, eqb-true, eqb-false, eq-eqb, ne-eqb, not-true, not-false}
 use Rattle.basics.specs.Lists.{allIn}
-use Rattle.basics.specs.Below.{countBelow}
 use Rattle.basics.proofs.Bools.{clash, true-of-not, and-left, and-right, or-fails, or-false-left, or-false-right, equal-or-not}
-use Rattle.basics.proofs.Below.{any-false, count-zero}
+use Rattle.basics.proofs.Below.{any-false}
 use Rattle.basics.proofs.Search.{least-is}
 use Rattle.rules.specs.Sizes.{Size, cell-bytes, table-bytes, drafts-bytes, log-bytes, most-records, handles}
 use Rattle.rules.specs.Books.{Books, place-at, is-free, is-live, is-held, lowest-free, no-free, live-count, room-taken}
@@ -22,6 +21,7 @@ use Rattle.rules.specs.Kept.{HeldCaller, LiveCaller, BeginAsked, WriteAs
 use Rattle.rules.proofs.Handles.{ended-is-committed, StatusKnown, good-or-stale}
 use Rattle.rules.proofs.Reasons.{none-after, none-of-both}
 use Rattle.rules.proofs.Sound.{sound-says}
+use Rattle.rules.proofs.Room.{live-has-room}
 
 -- ---- one reason at a time
 
@@ -61,19 +61,6 @@ module _ (z : Size) (b : Books) where
       let most = least-is (λ i. is-free (place-at b i)) (z .places) .most in
       let other = eqb-false _ (z .places) e in
       omega arith
-
--- a live place is counted, so the records stay below the most
-pub live-has-room : (z : Size) (b : Books) (i : ℕ) → Sound z b → i < z .places → place-at b i .status ≡ 1 → b .records < most-records
-unfolding room-taken live-count
-live-has-room z b i s h live =
-    let room = s .room in
-    let counted : countBelow (λ k. is-live (place-at b k)) (z .places) ≡ 0 → ⊥ = λ e. clash (eq-eqb _ 1 live) (count-zero _ (z .places) e i h) in
-    omega arith
-
--- and so they do where the log has room for one record more
-pub room-for-one : (z : Size) (b : Books) → room-taken z b + 1 ≤ most-records → b .records < most-records
-unfolding room-taken
-room-for-one z b h = omega arith
 
 -- ---- the handle
 

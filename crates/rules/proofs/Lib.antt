@@ -38,6 +38,7 @@ pub mod LivePlaces
 pub mod LocalOpacity
 pub mod Mirror
 pub mod MirrorKinds
+pub mod MirrorNew
 pub mod MirrorStep
 pub mod Mirrored
 pub mod Moments
@@ -49,6 +50,7 @@ pub mod PairsMirrored
 pub mod ReadsInTime
 pub mod Reasons
 pub mod Replayed
+pub mod Room
 pub mod Running
 pub mod Runs
 pub mod Seats

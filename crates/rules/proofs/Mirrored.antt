@@ -2,9 +2,9 @@
 -- the step of one record. Assumes nothing.
 use Prim.Native.Nat.{ℕ, suc, _<_}
 use mathlib.Core.Path.{_≡_, refl, sym, _∙_, ap, subst}
-use mathlib.Core.Logic.{⊎-elim, Iff·rfl}
+use mathlib.Core.Logic.{Iff·rfl}
 use mathlib.Core.Bool.{true, false, cond, _&&_}
-use mathlib.Core.List.{List, [], _∷_}
+use mathlib.Core.List.{List, _∷_}
 use lib.ListN.{length}
 use lib.Dec.{ltb, leb, eqb}
 use native.Mathlib.Omega.{arith}
@@ -16,74 +16,30 @@ use Rattle.basics.proofs.Says.{not-says, if-says}
 use Rattle.rules.specs.declared.Place.{Place}
 use Rattle.rules.specs.declared.Record.{Record}
 use Rattle.rules.specs.Sizes.{Size, Within, width}
-use Rattle.rules.specs.Books.{Books, Shaped, place-at, wrote, freed, begun, posted, marked, with-place, with-record, no-place, opened, closed, lowest-free, number-of}
+use Rattle.rules.specs.Books.{Books, Shaped, place-at, wrote, freed, begun, posted, marked, with-place, with-record, lowest-free, number-of}
 use Rattle.rules.specs.Handles.{place-of}
 use Rattle.rules.specs.Sound.{Sound}
 use Rattle.rules.specs.Cells.{draft-of}
 use Rattle.rules.specs.Kinds.{lowest-kind, highest-kind, begin-kind, judged-read-kind, own-read-kind, write-kind, commit-kind, give-up-kind, read-conflict-kind, commit-conflict-kind, post-kind, kind-starts, kind-frees, kind-own-read, kind-table-read, kind-has-cell, kind-has-value}
 use Rattle.rules.specs.Daylog.{no-value}
-use Rattle.rules.specs.Layout.{seat, fits, fields-right, walks}
+use Rattle.rules.specs.Layout.{seat, fits, fields-right}
 use Rattle.rules.specs.State.{Outcome, refused, recorded, record-at}
 use Rattle.rules.specs.Judged.{Judged, books-granted, granted-of, turned-back}
 use Rattle.rules.specs.Steps.{own-read-of, open-rule, begin-of, write-of, show-of, give-up-of, post-of, order-of, close-of}
 use Rattle.rules.specs.Calls.{Call, Lending, owns, IsJudged, read-judged, commit-judged}
 use Rattle.rules.specs.Kept.{LiveCaller, BeginAsked, WriteAsked, ReadAsked, PostAsked}
 use Rattle.rules.specs.Run.{Machine, lends, outcome, new-day, moved-on, after-call}
-use Rattle.rules.specs.Runs.{DayStarts}
 use Rattle.rules.proofs.Mirror.{Holds, Mirrors, Mirrored}
 use Rattle.rules.proofs.Asked.{lowest-is-free}
 use Rattle.rules.proofs.EachCall.{AskedOf, EachOutcome, each-call}
 use Rattle.rules.proofs.JudgedStep.{allowed, wide-caller, judged-step}
 use Rattle.rules.proofs.KindLaws.{frees-only}
-use Rattle.rules.proofs.Shape.{wide-freed, place-at-same, place-at-other, place-at-opened, place-at-closed, shaped-opened, shaped-closed, shaped-with-place}
-use Rattle.rules.proofs.Sound.{sound-says}
-use Rattle.rules.proofs.SoundKept.{sound-opened, sound-closed}
+use Rattle.rules.proofs.Shape.{wide-freed, place-at-same, place-at-other, shaped-with-place}
 use Rattle.rules.proofs.SoundCalls.{shape-judged, shape-each, sound-judged, sound-each}
 use Rattle.rules.proofs.Seats.{LiveSeat}
-use Rattle.rules.proofs.CommittedHeld.{none-committed}
+use Rattle.rules.proofs.MirrorNew.{mirrored-opened, mirrored-closed}
 use Rattle.rules.proofs.MirrorStep.{mirrored-more}
 use Rattle.rules.proofs.MirrorKinds.{mirrors-freed, mirrors-begun, mirrors-posted, mirrors-marked, mirrors-own-read, mirrors-read, mirrors-sealed}
-
--- ---- a new day
-
--- a place that was freed stands as a seat of no records
-mirrors-blank : (z : Size) (i : ℕ) (p : Place) → Mirrors z [] i (freed p)
-unfolding freed seat
-mirrors-blank z i p = record { status = refl; holds = never }
-
--- books whose places were all freed, before the first record
-module _ (z : Size) where
-  blank-day : (b : Books) → Shaped b → Sound z b → b .records ≡ 0 → (freed-of : ℕ → Place)
-      → ((i : ℕ) → i < z .places → place-at b i ≡ freed (freed-of i)) → Mirrored z b []
-  unfolding walks
-  blank-day b shape sound none freed-of blank =
-      record {
-        shape = shape;
-        sound = sound;
-        counted = none;
-        walking = refl;
-        places = λ i h. rw (blank i h) (mirrors-blank z i (freed-of i));
-        kept = none-committed z b;
-      }
-
-  module _ (w : Within z) where
-    -- an opening and a close leave such books
-    mirrored-opened : Mirrored z opened []
-    unfolding opened
-    mirrored-opened =
-        blank-day opened shaped-opened (sound-says z _ .0 (sound-opened z)) refl (λ i. no-place) (λ i h. place-at-opened i (omega (arith, w .places)))
-
-    mirrored-closed : (before : Books) → Shaped before → Mirrored z (closed before) []
-    unfolding closed
-    mirrored-closed before s =
-        blank-day (closed before) (shaped-closed s) (sound-says z _ .0 (sound-closed z before)) refl (place-at before)
-        (λ i h. place-at-closed i s (omega (arith, w .places)))
-
--- the books of an opening, and those that a close leaves
-pub mirrored-new : (z : Size) (b : Books) → Within z → DayStarts b → Mirrored z b []
-mirrored-new z b w =
-    ⊎-elim (λ e. subst (λ (x : Books). Mirrored z x []) (sym e) (mirrored-opened z w))
-    (λ x. subst (λ (y : Books). Mirrored z y []) (sym (x .2)) (mirrored-closed z w (x .0) (x .1)))
 
 -- ---- the record of a call
 

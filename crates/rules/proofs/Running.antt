@@ -34,7 +34,8 @@ use Rattle.rules.proofs.JudgedStep.{allowed, JudgedStep, judged-step}
 use Rattle.rules.proofs.KindLaws.{frees-only}
 use Rattle.rules.proofs.Judging.{given-orders}
 use Rattle.rules.proofs.Mirror.{Mirrored, Valued}
-use Rattle.rules.proofs.Mirrored.{mirrored-new, mirrored-judged, mirrored-each}
+use Rattle.rules.proofs.MirrorNew.{mirrored-new}
+use Rattle.rules.proofs.Mirrored.{mirrored-judged, mirrored-each}
 use Rattle.rules.proofs.Shape.{place-at-same}
 use Rattle.rules.proofs.Valued.{valued-new, valued-each}
 use Rattle.rules.proofs.Verdicts.{cycle-mirrored}
