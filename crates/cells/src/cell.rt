@@ -4,7 +4,7 @@ ghost use Prim.Native.Nat.{_+_, _*_, _<_, _≤_};
 ghost use lib.ListN.{length};
 ghost use Rattle.rules.specs.Sizes.{Within, cell-bytes, drafts-bytes};
 ghost use Rattle.rules.specs.Cells.{cell-of, with-cell, draft-cell, draft-of, with-draft};
-use parts::bytes;
+use log_bytes::bytes;
 use rules::Size;
 use rules::sizes::CELL_BYTES;
 

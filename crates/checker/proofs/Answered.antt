@@ -13,9 +13,9 @@ use Rattle.rules.specs.Daylog.{records-in, day-of}
 use Rattle.rules.specs.Layout.{well-laid-out}
 use Rattle.rules.specs.Day.{is-transaction}
 use Rattle.rules.specs.Checker.{accepted, log-events, checked}
-use Rattle.rules.proofs.Daylog.{length-day-of}
-use Rattle.rules.proofs.LaidOut.{laid-out-has}
-use Rattle.rules.proofs.Moments.{transaction-bound}
+use Rattle.rules.proofs.Log.StandingLog.{length-day-of}
+use Rattle.rules.proofs.Log.LaidOut.{laid-out-has}
+use Rattle.rules.proofs.Day.Moments.{transaction-bound}
 
 module _ (z : Size) (opening log : List ℕ) (t : ℕ) (order : List ℕ) where
   -- the opening table has a wrong length

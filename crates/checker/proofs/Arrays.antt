@@ -14,7 +14,7 @@ use Rattle.basics.proofs.Bools.{split, same-tests, and-left, and-right, and-bot
 use Rattle.basics.proofs.Elements.{set-each}
 use Rattle.rules.specs.declared.Size.{Size}
 use Rattle.rules.specs.Sizes.{width}
-use Rattle.replay.specs.Kept.{mark, laid}
+use Rattle.check_replay.specs.Kept.{mark, laid}
 
 -- a position and a cell stand by themselves
 pub mark-only : (i at c d : ℕ) → c < width → d < width → eqb (mark i c) (mark at d) ≡ eqb i at && eqb d c

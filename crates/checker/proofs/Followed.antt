@@ -17,14 +17,14 @@ use Rattle.rules.specs.Sizes.{Within, width}
 use Rattle.rules.specs.Kinds.{kind-starts, kind-commits, kind-writes, kind-judged-read, kind-sets-moment, kind-has-cell}
 use Rattle.rules.specs.Layout.{Seat, seat, walks}
 use Rattle.rules.specs.Day.{whose, event, events, latest, commit-of, wrote-cell}
-use Rattle.rules.proofs.InTime.{read-cell, has-stranger}
-use Rattle.rules.proofs.Seats.{LiveSeat, walks-earlier, fits-live, seat-by}
-use Rattle.rules.proofs.Moments.{moment-more}
-use Rattle.listing.specs.Listed.{position}
-use Rattle.replay.specs.Kept.{Kept, mark, holder-after, laid, followed}
-use Rattle.explains.specs.Explained.{PastOnly}
+use Rattle.rules.proofs.Replay.InTime.{read-cell, has-stranger}
+use Rattle.rules.proofs.Log.Seats.{LiveSeat, walks-earlier, fits-live, seat-by}
+use Rattle.rules.proofs.Day.Moments.{moment-more}
+use Rattle.check_list.specs.Listed.{position}
+use Rattle.check_replay.specs.Kept.{Kept, mark, holder-after, laid, followed}
+use Rattle.check_explain.specs.Explained.{PastOnly}
 use Rattle.checker.proofs.Arrays.{mark-only, mark-within, laid-length, laid-bounded, laid-at}
-use Rattle.listing.proofs.Positions.{position-found, position-member, position-only}
+use Rattle.check_list.proofs.Positions.{position-found, position-member, position-only}
 use Rattle.checker.proofs.Mirrored.{latest-write, table-record, Mirrors, walks-fields, wrote-told}
 
 -- ---- tests

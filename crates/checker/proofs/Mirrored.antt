@@ -18,12 +18,12 @@ use Rattle.rules.specs.Sizes.{width}
 use Rattle.rules.specs.Kinds.{kind-starts, kind-commits, kind-writes}
 use Rattle.rules.specs.Layout.{seat, fields-right, walks, FieldsRight}
 use Rattle.rules.specs.Day.{Event, whose, events, latest, commit-of, committed, moment-of, wrote-cell}
-use Rattle.rules.proofs.InTime.{read-cell, has-stranger}
-use Rattle.rules.proofs.Seats.{walks-earlier, fits-live}
-use Rattle.rules.proofs.LaidOut.{fields-says}
-use Rattle.rules.proofs.Commits.{latest-zero, latest-some}
-use Rattle.replay.specs.Kept.{Kept, mark, fresh, whose-kept}
-use Rattle.explains.specs.Explained.{PastOnly}
+use Rattle.rules.proofs.Replay.InTime.{read-cell, has-stranger}
+use Rattle.rules.proofs.Log.Seats.{walks-earlier, fits-live}
+use Rattle.rules.proofs.Log.LaidOut.{fields-says}
+use Rattle.rules.proofs.Day.Commits.{latest-zero, latest-some}
+use Rattle.check_replay.specs.Kept.{Kept, mark, fresh, whose-kept}
+use Rattle.check_explain.specs.Explained.{PastOnly}
 
 -- the record of k's latest write of the cell, 0 for none
 unfoldable pub latest-write : List Event → ℕ → ℕ → ℕ

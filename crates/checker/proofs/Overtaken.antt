@@ -17,13 +17,13 @@ use Rattle.rules.specs.declared.Size.{Size}
 use Rattle.rules.specs.Kinds.{kind-posts, kind-starts, kind-commits, kind-writes, kind-judged-read}
 use Rattle.rules.specs.Layout.{walks}
 use Rattle.rules.specs.Day.{Event, whose, event, events, committed, wrote-cell}
-use Rattle.rules.proofs.KindLaws.{posts-starts, posts-writes, posts-commits, posts-read-nothing, starts-commit-posts, commits-write-nothing, reads-start-nothing, reads-commit-nothing, writes-have-cell}
-use Rattle.rules.proofs.InTime.{read-cell, committed-cell, arises}
-use Rattle.rules.proofs.Day.{number-bounds, who-bound, whose-starts}
-use Rattle.listing.specs.Listed.{position}
-use Rattle.replay.specs.Kept.{Kept, mark}
-use Rattle.overtaking.specs.Later.{committed-later, used-later, any-used-later, overtaken}
-use Rattle.listing.proofs.Positions.{position-found}
+use Rattle.rules.proofs.Log.KindLaws.{posts-starts, posts-writes, posts-commits, posts-read-nothing, starts-commit-posts, commits-write-nothing, reads-start-nothing, reads-commit-nothing, writes-have-cell}
+use Rattle.rules.proofs.Replay.InTime.{read-cell, committed-cell, arises}
+use Rattle.rules.proofs.Day.Events.{number-bounds, who-bound, whose-starts}
+use Rattle.check_list.specs.Listed.{position}
+use Rattle.check_replay.specs.Kept.{Kept, mark}
+use Rattle.check_later.specs.Later.{committed-later, used-later, any-used-later, overtaken}
+use Rattle.check_list.proofs.Positions.{position-found}
 use Rattle.checker.proofs.Mirrored.{Mirrors, walks-fields, committed-told, wrote-told}
 
 -- ---- kinds

@@ -17,11 +17,11 @@ use Rattle.rules.specs.Layout.{well-laid-out}
 use Rattle.rules.specs.Day.{is-transaction}
 use Rattle.rules.specs.Checker.{lists-company, accepted, log-events, checked}
 use Rattle.rules.specs.Numbers.{first-reason}
-use Rattle.rules.proofs.LaidOut.{laid-out-has}
-use Rattle.rules.proofs.CompanyInTime.{company-told}
-use Rattle.rules.proofs.FewInCompany.{company-few}
-use Rattle.listing.specs.Listed.{position}
-use Rattle.listing.proofs.Positions.{position-member}
+use Rattle.rules.proofs.Log.LaidOut.{laid-out-has}
+use Rattle.rules.proofs.Replay.CompanyInTime.{company-told}
+use Rattle.rules.proofs.Replay.FewInCompany.{company-few}
+use Rattle.check_list.specs.Listed.{position}
+use Rattle.check_list.proofs.Positions.{position-member}
 
 module _ (z : Size) (opening log : List ℕ) (t : ℕ) where
   -- it is not accepted

@@ -22,13 +22,13 @@ use Rattle.rules.specs.Kinds.{kind-judged-read, kind-own-read, kind-sets-moment
 use Rattle.rules.specs.Daylog.{decode, bytes-at, day-of}
 use Rattle.rules.specs.Layout.{walks}
 use Rattle.rules.specs.Day.{Event, whose, event, events, written-value}
-use Rattle.rules.proofs.KindLaws.{own-reads-start-nothing, own-reads-no-judged, reads-no-own, own-reads-commit-nothing, reads-have-cell, own-reads-have-cell}
-use Rattle.rules.proofs.InTime.{arises, table-by, in-company, step-right}
-use Rattle.replay.specs.Kept.{Kept}
-use Rattle.listing.specs.Listed.{position, all-in-time}
-use Rattle.overtaking.specs.Later.{overtaken}
-use Rattle.explains.specs.Explained.{CellRight, value-at, source, read-explained, own-explained, explained}
-use Rattle.listing.proofs.Positions.{position-found, position-member, keeps-position}
+use Rattle.rules.proofs.Log.KindLaws.{own-reads-start-nothing, own-reads-no-judged, reads-no-own, own-reads-commit-nothing, reads-have-cell, own-reads-have-cell}
+use Rattle.rules.proofs.Replay.InTime.{arises, table-by, in-company, step-right}
+use Rattle.check_replay.specs.Kept.{Kept}
+use Rattle.check_list.specs.Listed.{position, all-in-time}
+use Rattle.check_later.specs.Later.{overtaken}
+use Rattle.check_explain.specs.Explained.{CellRight, value-at, source, read-explained, own-explained, explained}
+use Rattle.check_list.proofs.Positions.{position-found, position-member, keeps-position}
 use Rattle.checker.proofs.Mirrored.{latest-write, Mirrors, walks-fields, committed-told}
 use Rattle.checker.proofs.Followed.{cell-within}
 use Rattle.checker.proofs.Valued.{value-of-bytes, valued, write-valued, table-valued, own-read-wrote}

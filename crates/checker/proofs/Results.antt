@@ -10,7 +10,7 @@ use Rattle.rules.specs.Numbers.{granted}
 use Rattle.rules.specs.Layout.{well-laid-out}
 use Rattle.rules.specs.Day.{is-transaction}
 use Rattle.rules.specs.Checker.{accepted, log-events, checked}
-use Rattle.rules.proofs.LaidOut.{layout-says}
+use Rattle.rules.proofs.Log.LaidOut.{layout-says}
 use Rattle.checker.specs.Statements.{ResultsUnique, Accepts, AnswerSaysAccepted}
 use Rattle.checker.proofs.Answered.{answered-lent, answered-badly, answered-unknown, answered-not, answered-accepted}
 

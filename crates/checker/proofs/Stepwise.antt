@@ -12,8 +12,8 @@ use Rattle.rules.specs.Daylog.{decode, bytes-at, day-of}
 use Rattle.rules.specs.Layout.{walks}
 use Rattle.rules.specs.Day.{event, events, is-transaction}
 use Rattle.rules.specs.Checker.{accepted}
-use Rattle.rules.proofs.InTime.{in-company, step-right, replays, accepted-in-time}
-use Rattle.rules.proofs.Replayed.{accepted-told}
+use Rattle.rules.proofs.Replay.InTime.{in-company, step-right, replays, accepted-in-time}
+use Rattle.rules.proofs.Replay.Replayed.{accepted-told}
 
 -- what passes from each number to the one below holds of all lower ones
 down : (P : ℕ → Type 0) → ((m : ℕ) → P (suc m) → P m) → (n m : ℕ) → n ≤ m → P m → P n

@@ -18,15 +18,15 @@ use Rattle.rules.specs.Daylog.{decode, bytes-at, day-of}
 use Rattle.rules.specs.Layout.{walks}
 use Rattle.rules.specs.Day.{whose, event, events, is-transaction}
 use Rattle.rules.specs.Checker.{accepted}
-use Rattle.rules.proofs.InTime.{step-right, replays}
-use Rattle.rules.proofs.Daylog.{length-day-of}
-use Rattle.readback.proofs.FollowedLog.{walks-first}
-use Rattle.replay.specs.Kept.{Kept, fresh, whose-kept, followed}
-use Rattle.listing.specs.Listed.{position, all-in-time}
-use Rattle.explains.specs.Explained.{PastOnly, CellRight, explained}
+use Rattle.rules.proofs.Replay.InTime.{step-right, replays}
+use Rattle.rules.proofs.Log.StandingLog.{length-day-of}
+use Rattle.log_back.proofs.FollowedLog.{walks-first}
+use Rattle.check_replay.specs.Kept.{Kept, fresh, whose-kept, followed}
+use Rattle.check_list.specs.Listed.{position, all-in-time}
+use Rattle.check_explain.specs.Explained.{PastOnly, CellRight, explained}
 use Rattle.checker.proofs.Mirrored.{Mirrors, mirrors-fresh, whose-mirrored}
 use Rattle.checker.proofs.Followed.{mirrors-more}
-use Rattle.listing.proofs.Positions.{position-member}
+use Rattle.check_list.proofs.Positions.{position-member}
 use Rattle.checker.proofs.Replaying.{explained-says, unlisted-right, in-time-says, cell-right, place-within}
 use Rattle.checker.proofs.Stepwise.{replays-on, accepted-not, accepted-end}
 

@@ -21,14 +21,14 @@ use Rattle.rules.specs.Kinds.{kind-commits, kind-writes, kind-own-read}
 use Rattle.rules.specs.Daylog.{decode, bytes-at, day-of}
 use Rattle.rules.specs.Layout.{Seat, begun-seat, used-seat, seat, walks}
 use Rattle.rules.specs.Day.{Event, whose, event, events, latest, wrote-cell, written-value}
-use Rattle.rules.proofs.KindLaws.{own-reads-start-nothing}
-use Rattle.rules.proofs.InTime.{table-by}
-use Rattle.rules.proofs.Seats.{walks-earlier, seat-by}
-use Rattle.rules.proofs.LivePlaces.{wrote-says}
-use Rattle.rules.proofs.LaidOut.{fits-says}
-use Rattle.rules.proofs.Day.{event-cases, whose-starts, whose-others}
-use Rattle.rules.proofs.Daylog.{length-day-of}
-use Rattle.explains.specs.Explained.{value-at, source}
+use Rattle.rules.proofs.Log.KindLaws.{own-reads-start-nothing}
+use Rattle.rules.proofs.Replay.InTime.{table-by}
+use Rattle.rules.proofs.Log.Seats.{walks-earlier, seat-by}
+use Rattle.rules.proofs.Log.LivePlaces.{wrote-says}
+use Rattle.rules.proofs.Log.LaidOut.{fits-says}
+use Rattle.rules.proofs.Day.Events.{event-cases, whose-starts, whose-others}
+use Rattle.rules.proofs.Log.StandingLog.{length-day-of}
+use Rattle.check_explain.specs.Explained.{value-at, source}
 use Rattle.checker.proofs.Mirrored.{latest-write, table-record, wrote-told}
 
 -- ---- a record's bytes

@@ -5,7 +5,7 @@ ghost use lib.ListN.{length, take};
 ghost use Rattle.rules.specs.Sizes.{yard};
 ghost use Rattle.checker.specs.Desk.{pairs-of, checked-pairs};
 use crate::proposal;
-use parts::bytes;
+use log_bytes::bytes;
 use rules::numbers;
 
 // The numbers of the first pairs of bytes, as many as the lent list has room for.

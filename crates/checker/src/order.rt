@@ -9,11 +9,11 @@ ghost use Rattle.rules.specs.Daylog.{day-of};
 ghost use Rattle.rules.specs.Layout.{walks, well-laid-out};
 ghost use Rattle.rules.specs.Day.{events, is-transaction};
 ghost use Rattle.rules.specs.Checker.{accepted, log-events};
-use explains::explain;
-use listing::company;
-use listing::lists;
-use records::reader;
-use replay::state;
+use check_explain::explain;
+use check_list::company;
+use check_list::lists;
+use check_replay::state;
+use log_read::reader;
 use rules::Size;
 use rules::sizes;
 

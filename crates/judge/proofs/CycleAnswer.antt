@@ -5,7 +5,7 @@ use mathlib.Core.List.{List}
 use Rattle.rules.specs.declared.Place.{Place}
 use Rattle.rules.specs.Books.{of-places}
 use Rattle.rules.specs.Judging.{has-cycle}
-use Rattle.rules.proofs.Judging.{cycle-by-places, given-orders}
+use Rattle.rules.proofs.Judging.GivenOrders.{cycle-by-places, given-orders}
 use Rattle.judge.specs.Statements.{AnswerSaysCycle}
 
 pub answer-says-cycle : AnswerSaysCycle

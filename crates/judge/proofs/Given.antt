@@ -17,9 +17,9 @@ use Rattle.rules.specs.declared.Size.{Size}
 use Rattle.rules.specs.Sizes.{Within, width}
 use Rattle.rules.specs.Books.{Books, place-at}
 use Rattle.rules.specs.Judging.{company, stands-before, has-cycle, given-places, given-order}
-use Rattle.squares.specs.Square.{is-in, said-before, square-of}
+use Rattle.pairs.specs.Square.{is-in, said-before, square-of}
 use Rattle.judge.specs.Ordered.{begin-of}
-use Rattle.squares.proofs.Squares.{present-says, square-says}
+use Rattle.pairs.proofs.Squares.{present-says, square-says}
 
 module _ (z : Size) (within : Within z) (b : Books) (i : ℕ) (present : List Bool) (rows : List (List Bool))
     (company-right : present ≡ filledBelow (company z b i) false (z .places) width) (square-right : rows ≡ square-of z b present) where

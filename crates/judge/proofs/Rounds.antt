@@ -15,7 +15,7 @@ use Rattle.basics.proofs.Bytes.{splice-length}
 use Rattle.basics.proofs.Elimination.{clear-left}
 use Rattle.basics.proofs.Eliminated.{next-at-most, next-clear, next-empty, eliminated-more, eliminated-end}
 use Rattle.rules.specs.State.{buffer-after}
-use Rattle.squares.specs.Square.{is-in}
+use Rattle.pairs.specs.Square.{is-in}
 use Rattle.judge.proofs.Unmarked.{unmarked-fewer, unmarked-eliminated}
 
 -- the numbers, and from their end on the buffer as it was

@@ -14,7 +14,7 @@ use Rattle.basics.proofs.Bools.{equal-or-not, same-tests, and-fails-left, and-f
 use Rattle.basics.proofs.Below.{Agree, any-skips, count-cong}
 use Rattle.basics.proofs.Elimination.{without-left, without-of, without-itself, without-fewer}
 use Rattle.basics.proofs.Eliminated.{gives-all-without, gives-all-cong, eliminated-cong}
-use Rattle.squares.specs.Square.{is-in}
+use Rattle.pairs.specs.Square.{is-in}
 
 -- the one at that place is left, and the row marks him
 abbrev pub left-in-row : List Bool → List Bool → ℕ → Bool

@@ -4,7 +4,7 @@ use mathlib.Core.Bool.{Bool}
 use mathlib.Core.List.{List}
 use lib.ListN.{getD}
 use Rattle.basics.specs.Elimination.{eliminated}
-use Rattle.squares.specs.Square.{is-in, said-before}
+use Rattle.pairs.specs.Square.{is-in, said-before}
 
 -- the begin record of the one at that place
 abbrev pub begin-of : List ℕ → ℕ → ℕ

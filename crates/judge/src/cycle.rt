@@ -4,7 +4,7 @@ ghost use mathlib.Core.Bool.{not};
 ghost use Prim.Native.Nat.{ℕ, _≤_};
 ghost use Rattle.basics.specs.Elimination.{givesAll};
 ghost use Rattle.rules.specs.Sizes.{width};
-ghost use Rattle.squares.specs.Square.{is-in, said-before};
+ghost use Rattle.pairs.specs.Square.{is-in, said-before};
 
 // Whether the pairs contain a cycle. Somebody with nobody left before him is taken off, again and again; where somebody is left and nobody
 // can be taken off, there is a cycle, and the search is left with that verdict from inside the passes.

@@ -6,7 +6,7 @@ ghost use lib.ListN.{length};
 ghost use Rattle.basics.specs.Elimination.{next};
 ghost use Rattle.rules.specs.Sizes.{width};
 ghost use Rattle.rules.specs.State.{buffer-after};
-ghost use Rattle.squares.specs.Square.{is-in, said-before};
+ghost use Rattle.pairs.specs.Square.{is-in, said-before};
 ghost use Rattle.judge.specs.Ordered.{begin-of, ordered};
 use pairs::marks;
 

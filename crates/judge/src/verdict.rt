@@ -8,10 +8,10 @@ ghost use Rattle.rules.specs.State.{buffer-after};
 ghost use Rattle.rules.specs.Judging.{has-cycle, given-order};
 use crate::cycle;
 use crate::order;
-use moments::company;
+use pairs::company;
+use pairs::square;
 use rules::Place;
 use rules::Size;
-use squares::square;
 use survey::columns;
 
 // Whether the pairs of the company of the transaction at place i contain a cycle.

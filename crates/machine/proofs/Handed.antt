@@ -3,10 +3,10 @@ use mathlib.Core.Path.{_≡_, sym, _∙_, ap, subst}
 use Rattle.rules.specs.declared.Size.{Size}
 use Rattle.rules.specs.Sizes.{Within, yard}
 use Rattle.rules.specs.State.{Outcome}
-use Rattle.rules.proofs.Shape.{yard-within}
-use Rattle.recording.specs.declared.Step.{Step}
-use Rattle.recording.specs.Left.{Leaves}
-use Rattle.recording.specs.Stepped.{step-of}
+use Rattle.rules.proofs.Books.Shape.{yard-within}
+use Rattle.effects.specs.declared.Step.{Step}
+use Rattle.effects.specs.Left.{Leaves}
+use Rattle.effects.specs.Stepped.{step-of}
 use Rattle.machine.specs.declared.books.Answer.{Answer}
 use Rattle.machine.specs.View.{answer-of, answer-of-step}
 

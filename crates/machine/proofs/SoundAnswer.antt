@@ -1,6 +1,6 @@
 -- The answer of the code's test of soundness says what the clauses of soundness say. Rests on the theorem `sound-says` of the rules.
 use mathlib.Core.Path.{sym, _∙_}
-use Rattle.rules.proofs.Sound.{sound-says}
+use Rattle.rules.proofs.Books.SoundnessSays.{sound-says}
 use Rattle.machine.specs.View.{view}
 use Rattle.machine.specs.Statements.{AnswerSaysSound}
 

@@ -10,10 +10,10 @@ use Rattle.rules.specs.Sound.{sound}
 use Rattle.rules.specs.State.{state-of}
 use Rattle.rules.specs.Run.{after-call}
 use Rattle.rules.specs.Kept.{Joined}
-use Rattle.rules.proofs.Shape.{yard-within, shaped-opened}
-use Rattle.rules.proofs.SoundKept.{sound-opened}
-use Rattle.rules.proofs.SoundCalls.{soundness-kept}
-use Rattle.rules.proofs.Joined.{log-joins-day}
+use Rattle.rules.proofs.Books.Shape.{yard-within, shaped-opened}
+use Rattle.rules.proofs.Books.SoundKept.{sound-opened}
+use Rattle.rules.proofs.Calls.SoundCalls.{soundness-kept}
+use Rattle.rules.proofs.Calls.Joined.{log-joins-day}
 use Rattle.machine.specs.declared.books.Books.{Books}
 use Rattle.machine.specs.declared.books.Answer.{Answer}
 use Rattle.machine.specs.View.{view}

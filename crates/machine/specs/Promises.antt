@@ -8,7 +8,7 @@ use Rattle.rules.specs.Daylog.{commits-in}
 use Rattle.rules.specs.State.{Outcome, state-of}
 use Rattle.rules.specs.Steps.{begin-rule, write-rule, read-rule, show-rule, commit-rule, give-up-rule, post-rule, order-rule, close-rule}
 use Rattle.rules.specs.Calls.{issued}
-use Rattle.recording.specs.Left.{Leaves, LogIs, BufferIs, TableAndLog, DraftsAndLog}
+use Rattle.effects.specs.Left.{Leaves, LogIs, BufferIs, TableAndLog, DraftsAndLog}
 use Rattle.machine.specs.declared.books.Books.{Books}
 use Rattle.machine.specs.declared.books.Answer.{Answer}
 use Rattle.machine.specs.declared.call.Call.{Call}

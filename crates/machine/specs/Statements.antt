@@ -12,7 +12,7 @@ use Rattle.rules.specs.Sound.{sound, Sound}
 use Rattle.rules.specs.State.{state-of}
 use Rattle.rules.specs.Run.{Machine, after-call}
 use Rattle.rules.specs.Kept.{Joined}
-use Rattle.recording.specs.Left.{LogIs, Shows}
+use Rattle.effects.specs.Left.{LogIs, Shows}
 use Rattle.machine.specs.declared.books.Books.{Books}
 use Rattle.machine.specs.declared.books.Answer.{Answer}
 use Rattle.machine.specs.declared.call.Call.{Call}

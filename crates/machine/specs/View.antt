@@ -1,7 +1,7 @@
 -- The machine's books and answers as the rules see them.
 use Rattle.machine.specs.declared.books.Books.{Books}
 use Rattle.machine.specs.declared.books.Answer.{Answer}
-use Rattle.recording.specs.declared.Step.{Step}
+use Rattle.effects.specs.declared.Step.{Step}
 use Rattle.rules.specs.Books.{Books as RuleBooks, books-of}
 use Rattle.rules.specs.State.{Outcome}
 

@@ -8,7 +8,7 @@ use lib.Dec.{ltb}
 use Rattle.basics.specs.Lists.{allIn, anyIn}
 use Rattle.basics.proofs.Bools.{split, or-false-left, or-false-right}
 use Rattle.rules.specs.Numbers.{granted, Reason, _if_, first-reason}
-use Rattle.rules.proofs.Reasons.{first-applies, first-passes, none-applies}
+use Rattle.rules.proofs.Calls.Reasons.{first-applies, first-passes, none-applies}
 
 -- ---- one test
 

@@ -16,11 +16,11 @@ use Rattle.rules.specs.Handles.{place-of, Caller, looked-up}
 use Rattle.rules.specs.Numbers.{granted, unsound, no-cell, full, log-full, busy, Reason, _if_, first-reason, wrong}
 use Rattle.rules.specs.Sound.{sound}
 use Rattle.rules.specs.Steps.{soundness-reason, handle-reasons, cell-reason, handle-cell-reasons, room-reason}
-use Rattle.rules.proofs.Asked.{status-asked, good-asked, held-asked}
-use Rattle.rules.proofs.Handles.{StatusKnown, looked-up-reasons}
-use Rattle.rules.proofs.Reasons.{none-after}
-use Rattle.rules.proofs.Shape.{free-by-places, live-by-places}
-use Rattle.rules.proofs.Sound.{sound-says}
+use Rattle.rules.proofs.Calls.Asked.{status-asked, good-asked, held-asked}
+use Rattle.rules.proofs.Books.HandleLaws.{StatusKnown, looked-up-reasons}
+use Rattle.rules.proofs.Calls.Reasons.{none-after}
+use Rattle.rules.proofs.Books.Shape.{free-by-places, live-by-places}
+use Rattle.rules.proofs.Books.SoundnessSays.{sound-says}
 use Rattle.reasons.proofs.First.{is-first, is-next, is-last, Numbered}
 
 -- ---- 1: lengths

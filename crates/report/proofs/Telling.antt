@@ -13,13 +13,13 @@ use Rattle.rules.specs.Daylog.{decode, bytes-at, records-in, day-of}
 use Rattle.rules.specs.Day.{event, events, is-transaction, Standing, stands-live, stands-committed, stands-gaveup, stands-conflict, stands-post}
 use Rattle.rules.specs.Checker.{log-events}
 use Rattle.rules.specs.Report.{standing-word, first-line, transaction-line, transaction-lines}
-use Rattle.rules.proofs.Daylog.{length-day-of}
+use Rattle.rules.proofs.Log.StandingLog.{length-day-of}
 use Rattle.texts.specs.Said.{placed, joined}
 use Rattle.texts.proofs.Fitting.{joined-append, decimal-few}
 use Rattle.texts.proofs.Saying.{then-placed}
-use Rattle.readback.specs.declared.transaction.Transaction.{Transaction}
-use Rattle.readback.specs.Told.{standing-number, transaction-of}
-use Rattle.readback.proofs.Starts.{starts-told}
+use Rattle.log_back.specs.declared.transaction.Transaction.{Transaction}
+use Rattle.log_back.specs.Told.{standing-number, transaction-of}
+use Rattle.log_back.proofs.Starts.{starts-told}
 use Rattle.report.specs.Told.{word-told, labelled, first-told, told, all-told}
 
 -- ---- one record more

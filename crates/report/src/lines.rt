@@ -7,9 +7,9 @@ ghost use Rattle.rules.specs.Layout.{well-laid-out};
 ghost use Rattle.texts.specs.Placed.{after-text, with-text};
 ghost use Rattle.texts.specs.Said.{placed};
 ghost use Rattle.report.specs.Told.{word-told, labelled, first-told, told, all-told};
-use readback::entry;
-use readback::transaction;
-use readback::transaction::Transaction;
+use log_back::entry;
+use log_back::transaction;
+use log_back::transaction::Transaction;
 use rules::Size;
 use texts::buffer;
 

@@ -7,25 +7,25 @@ use Rattle.rules.specs.Statements.{SoundnessSays, LayoutSays, LogReadsBa
 use Rattle.rules.specs.Runs.{DaysFollow, RunsReadBack, HandlesName, OrdersAccepted, ConflictsMet}
 use Rattle.rules.specs.History.{AcceptedSays, DaysPermissive}
 use Rattle.rules.specs.Kept.{ReasonsAsked, SoundnessKept, ShownIsRecorded, LogJoinsDay, Unlent}
-use Rattle.rules.proofs.AcceptedSays
-use Rattle.rules.proofs.Asked
+use Rattle.rules.proofs.History.AcceptedSays
+use Rattle.rules.proofs.Calls.Asked
 use Rattle.rules.proofs.CaseA
-use Rattle.rules.proofs.Conflict
-use Rattle.rules.proofs.Daylog
-use Rattle.rules.proofs.Encoding
-use Rattle.rules.proofs.Holders
-use Rattle.rules.proofs.Joined
-use Rattle.rules.proofs.Judging
-use Rattle.rules.proofs.LaidOut
-use Rattle.rules.proofs.LocalOpacity
-use Rattle.rules.proofs.NewDays
-use Rattle.rules.proofs.Reasons
-use Rattle.rules.proofs.Runs
-use Rattle.rules.proofs.Shown
-use Rattle.rules.proofs.Sound
-use Rattle.rules.proofs.SoundCalls
+use Rattle.rules.proofs.Calls.Conflict
+use Rattle.rules.proofs.Log.StandingLog
+use Rattle.rules.proofs.Log.Encoding
+use Rattle.rules.proofs.Runs.Holders
+use Rattle.rules.proofs.Calls.Joined
+use Rattle.rules.proofs.Judging.GivenOrders
+use Rattle.rules.proofs.Log.LaidOut
+use Rattle.rules.proofs.History.LocalOpacity
+use Rattle.rules.proofs.Runs.NewDays
+use Rattle.rules.proofs.Calls.Reasons
+use Rattle.rules.proofs.Runs.OfRuns
+use Rattle.rules.proofs.Calls.Shown
+use Rattle.rules.proofs.Books.SoundnessSays
+use Rattle.rules.proofs.Calls.SoundCalls
 use Rattle.rules.proofs.Trials
-use Rattle.rules.proofs.Unlent
+use Rattle.rules.proofs.Calls.Unlent
 
 -- the nine trials marked ●, and case A from its log alone
 pub trials : Trials
@@ -36,7 +36,7 @@ case-a-log = CaseA.case-a-log
 
 -- tests say what the rules say
 pub soundness-says : SoundnessSays
-soundness-says = Sound.sound-says
+soundness-says = SoundnessSays.sound-says
 
 pub layout-says : LayoutSays
 layout-says = LaidOut.layout-says
@@ -47,7 +47,7 @@ log-reads-back =
     record {
       record-back = Encoding.decode-encode;
       bytes-back = Encoding.encode-decode;
-      day-back = λ day p. ap (day-of (standing day)) (Daylog.records-in-standing day p) ∙ Daylog.day-of-standing day p;
+      day-back = λ day p. ap (day-of (standing day)) (StandingLog.records-in-standing day p) ∙ StandingLog.day-of-standing day p;
       log-back = LaidOut.laid-out-standing;
       day-laid-out = LaidOut.standing-laid-out;
     }
@@ -64,7 +64,7 @@ conflicts = Conflict.conflicts
 
 -- the given order
 pub given-orders : GivenOrders
-given-orders = Judging.given-orders
+given-orders = GivenOrders.given-orders
 
 -- what is known when no reason applies, and what every call keeps
 pub reasons-asked : ReasonsAsked
@@ -88,16 +88,16 @@ pub days-follow : DaysFollow
 days-follow = NewDays.days-follow
 
 pub runs-read-back : RunsReadBack
-runs-read-back = Runs.runs-read-back
+runs-read-back = OfRuns.runs-read-back
 
 pub handles-name : HandlesName
 handles-name = Holders.handles-name
 
 pub orders-accepted : OrdersAccepted
-orders-accepted = Runs.orders-accepted
+orders-accepted = OfRuns.orders-accepted
 
 pub conflicts-met : ConflictsMet
-conflicts-met = Runs.conflicts-met
+conflicts-met = OfRuns.conflicts-met
 
 -- in the words of source document 000: what `accepted` says, and that every day of a run is conflict locally opaque and permissive
 pub accepted-says : AcceptedSays

@@ -4,12 +4,12 @@ ghost use Rattle.basics.specs.Below.{allBelow};
 ghost use Rattle.rules.specs.Sizes.{Within};
 ghost use Rattle.rules.specs.Books.{place-at, of-places};
 ghost use Rattle.rules.specs.Sound.{is-clear, held-sound, commit-sound, place-sound};
-use reads::cells;
 use rules::Place;
 use rules::Size;
 use rules::statuses::COMMITTED;
 use rules::statuses::FREE;
 use rules::statuses::LIVE;
+use sound_cells::cells;
 
 // Zero in all but the turn.
 fn is_place_clear(p: Place, z: Size) -> bool

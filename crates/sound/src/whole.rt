@@ -4,10 +4,10 @@ ghost use Rattle.rules.specs.Sizes.{Within};
 ghost use Rattle.rules.specs.Books.{books-of};
 ghost use Rattle.rules.specs.Sound.{sound};
 use crate::clauses;
-use keys::apart;
 use rules::Place;
 use rules::Size;
 use rules::sizes::MOST_RECORDS;
+use sound_keys::apart;
 use survey::columns;
 
 // Whether the books of that record count and those places are sound.

@@ -8,9 +8,9 @@ use borrow.Author.Tests.{eq-eqb, ne-eqb}
 use Rattle.basics.proofs.Bytes.{splice-nothing}
 use Rattle.rules.specs.Numbers.{Reason, first-reason}
 use Rattle.rules.specs.State.{State, Outcome, nothing, entry-bytes, log-after, buffer-after, shown-bytes, shown-at, refused, unless-refused}
-use Rattle.recording.specs.declared.Step.{Step}
-use Rattle.recording.specs.Left.{Leaves, LogIs, BufferIs, TableAndLog, DraftsAndLog, Shows}
-use Rattle.recording.specs.Stepped.{step-of, refused-step}
+use Rattle.effects.specs.declared.Step.{Step}
+use Rattle.effects.specs.Left.{Leaves, LogIs, BufferIs, TableAndLog, DraftsAndLog, Shows}
+use Rattle.effects.specs.Stepped.{step-of, refused-step}
 
 -- ---- nothing added
 

@@ -10,8 +10,8 @@ use Rattle.rules.specs.Books.{Books, books-of, of-places, lowest-free, room-tak
 use Rattle.rules.specs.Handles.{place-of}
 use Rattle.rules.specs.Numbers.{first-reason}
 use Rattle.rules.specs.Steps.{begin-reasons, write-reasons, read-reasons, show-reasons, commit-reasons, give-up-reasons, post-reasons, order-reasons, close-reasons}
-use Rattle.rules.proofs.Shape.{free-by-places}
-use Rattle.rules.proofs.Asked.{begin-asked, write-asked, read-asked, show-asked, commit-asked, give-up-asked, post-asked, order-asked, close-asked, caller-has-room}
+use Rattle.rules.proofs.Books.Shape.{free-by-places}
+use Rattle.rules.proofs.Calls.Asked.{begin-asked, write-asked, read-asked, show-asked, commit-asked, give-up-asked, post-asked, order-asked, close-asked, caller-has-room}
 
 -- there is room for one record more in a log of the right length
 abbrev pub Recordable : ℕ → ℕ → Type 0

@@ -16,8 +16,8 @@ use Rattle.rules.specs.Handles.{place-of}
 use Rattle.rules.specs.Judged.{Judged, granted-of, turned-back}
 use Rattle.rules.specs.Steps.{open-rule, begin-of, write-of, own-read-of, show-of, give-up-of, post-of, order-of, close-of}
 use Rattle.rules.specs.Run.{Machine, lends, outcome, new-day, moved-on, after-call}
-use Rattle.rules.proofs.EachCall.{EachOutcome, each-call}
-use Rattle.rules.proofs.Judging.{order-length}
+use Rattle.rules.proofs.Calls.EachCall.{EachOutcome, each-call}
+use Rattle.rules.proofs.Judging.GivenOrders.{order-length}
 use Rattle.theorems.specs.Calling.{renews}
 
 -- its state is that of the outcome

@@ -20,11 +20,11 @@ use Rattle.rules.specs.Steps.{open-rule}
 use Rattle.rules.specs.Run.{Machine, lends, outcome, new-day, after-call}
 use Rattle.rules.specs.Kept.{Joined}
 use Rattle.rules.specs.Runs.{value-taken, told, told-call, shown-behind, shown-on}
-use Rattle.rules.proofs.Shape.{yard-within}
-use Rattle.rules.proofs.Joined.{log-joins-day}
-use Rattle.rules.proofs.Running.{Kept, kept-new, kept-after}
-use Rattle.rules.proofs.Told.{told-right}
-use Rattle.rules.proofs.Unlent.{unlent}
+use Rattle.rules.proofs.Books.Shape.{yard-within}
+use Rattle.rules.proofs.Calls.Joined.{log-joins-day}
+use Rattle.rules.proofs.Runs.Running.{Kept, kept-new, kept-after}
+use Rattle.rules.proofs.Runs.Told.{told-right}
+use Rattle.rules.proofs.Calls.Unlent.{unlent}
 use Rattle.machine.specs.declared.books.Answer.{Answer}
 use Rattle.machine.specs.View.{view, answer-of}
 use Rattle.machine.specs.Promises.{order-outcome, close-outcome, LeavesLog, LeavesBuffer}

@@ -21,16 +21,16 @@ use Rattle.rules.specs.Calls.{Order, Close}
 use Rattle.rules.specs.Run.{Machine, outcome, after-call}
 use Rattle.rules.specs.Checker.{checked}
 use Rattle.rules.specs.Runs.{DayStarts, holder, ConflictExactly as RuleExactly}
-use Rattle.rules.proofs.Shape.{yard-within}
-use Rattle.rules.proofs.Joined.{log-joins-day}
-use Rattle.rules.proofs.Daylog.{length-day-of, records-in-standing}
-use Rattle.rules.proofs.Holders.{handle-names}
-use Rattle.rules.proofs.NewDays.{close-starts}
-use Rattle.rules.proofs.Told.{stands-right}
-use Rattle.rules.proofs.Runs.{orders-given, conflict-met}
-use Rattle.rules.proofs.LocalOpacity.{permissive-kept}
-use Rattle.daylog.specs.Walked.{layout-number}
-use Rattle.readback.specs.Told.{entry-read}
+use Rattle.rules.proofs.Books.Shape.{yard-within}
+use Rattle.rules.proofs.Calls.Joined.{log-joins-day}
+use Rattle.rules.proofs.Log.StandingLog.{length-day-of, records-in-standing}
+use Rattle.rules.proofs.Runs.Holders.{handle-names}
+use Rattle.rules.proofs.Runs.NewDays.{close-starts}
+use Rattle.rules.proofs.Runs.Told.{stands-right}
+use Rattle.rules.proofs.Runs.OfRuns.{orders-given, conflict-met}
+use Rattle.rules.proofs.History.LocalOpacity.{permissive-kept}
+use Rattle.log_layout.specs.Walked.{layout-number}
+use Rattle.log_back.specs.Told.{entry-read}
 use Rattle.machine.specs.declared.books.Answer.{Answer}
 use Rattle.machine.specs.View.{view}
 use Rattle.machine.specs.Promises.{order-outcome, close-outcome, LeavesLog, LeavesBuffer}

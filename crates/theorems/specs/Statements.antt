@@ -20,9 +20,9 @@ use Rattle.rules.specs.Day.{events}
 use Rattle.rules.specs.Checker.{checked}
 use Rattle.rules.specs.Runs.{DayStarts, reads-own, holder, AnsweredBy, DayPair, record-granted, MeetsNone}
 use Rattle.rules.specs.History.{Permissive}
-use Rattle.daylog.specs.Walked.{layout-number}
-use Rattle.readback.specs.declared.entry.Entry.{Entry}
-use Rattle.readback.specs.Told.{entry-read}
+use Rattle.log_layout.specs.Walked.{layout-number}
+use Rattle.log_back.specs.declared.entry.Entry.{Entry}
+use Rattle.log_back.specs.Told.{entry-read}
 use Rattle.checker.specs.Desk.{pairs-of, checked-pairs}
 use Rattle.machine.specs.declared.books.Answer.{Answer}
 use Rattle.machine.specs.View.{view}

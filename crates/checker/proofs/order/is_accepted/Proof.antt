@@ -7,7 +7,7 @@ use borrow.Author.Needs.{needs}
 use borrow.Author.Tests.{not-true, not-false}
 use Rattle.rules.specs.Daylog.{records-in}
 use Rattle.rules.specs.Checker.{log-events}
-use Rattle.rules.proofs.LaidOut.{laid-out-has}
+use Rattle.rules.proofs.Log.LaidOut.{laid-out-has}
 use Rattle.checker.proofs.Refused.{long-refused, repeats-refused, unlisted-refused, listed-there}
 use Rattle.checker.proofs.order.is_accepted.Statement.{statement}
 use Rattle.checker.proofs.order.is_accepted.Tie as tie

@@ -6,7 +6,7 @@ use mathlib.Core.Logic.{⊎-elim}
 use native.Mathlib.Omega.{arith}
 use borrow.Author.Needs.{needs}
 use borrow.Author.Tests.{not-true, not-false}
-use Rattle.replay.specs.Kept.{kept-of}
+use Rattle.check_replay.specs.Kept.{kept-of}
 use Rattle.checker.proofs.Turns.{Turn, turn-none, entry-place, entry-cell, past-only, turn-on, turn-fails, turn-ends}
 use Rattle.checker.proofs.order.is_replayed.Statement.{statement}
 use Rattle.checker.proofs.order.is_replayed.Tie as tie

@@ -3,7 +3,7 @@ use mathlib.Core.Path.{_∙_, ap}
 use denote.Ref.{now}
 use borrow.Author.Needs.{needs}
 use Rattle.rules.specs.Checker.{checked}
-use Rattle.rules.proofs.Shape.{size-within}
+use Rattle.rules.proofs.Books.Shape.{size-within}
 use Rattle.checker.proofs.proposal.checked.Statement.{statement}
 use Rattle.checker.proofs.proposal.checked.Tie as tie
 

@@ -13,7 +13,7 @@ use Rattle.basics.specs.Elimination.{givesAll}
 use Rattle.basics.proofs.Bools.{and-both}
 use Rattle.basics.proofs.Below.{any-none}
 use Rattle.basics.proofs.Eliminated.{clear-open}
-use Rattle.squares.specs.Square.{is-in, said-before}
+use Rattle.pairs.specs.Square.{is-in, said-before}
 use Rattle.judge.proofs.Unmarked.{left-in-row, row-skips, unmarked-fewer, unmarked-gives-all}
 use Rattle.judge.proofs.Peel.{Passed, passed-none, passed-blocked, passed-gone, passed-all}
 use Rattle.judge.proofs.cycle.contains_cycle.Statement.{statement}

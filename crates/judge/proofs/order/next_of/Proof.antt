@@ -10,7 +10,7 @@ use borrow.Author.Needs.{needs}
 use borrow.Author.Tests.{ltb-true, ltb-false, not-true, not-false}
 use Rattle.basics.specs.Elimination.{clear, next}
 use Rattle.basics.proofs.Eliminated.{clear-open, clear-blocked, clear-gone}
-use Rattle.squares.specs.Square.{is-in, said-before}
+use Rattle.pairs.specs.Square.{is-in, said-before}
 use Rattle.judge.specs.Ordered.{begin-of}
 use Rattle.judge.proofs.Next.{FoundSoFar, found-none, found-at-most, found-skips, found-here, found-stays, found-all}
 use Rattle.judge.proofs.order.next_of.Statement.{statement}

@@ -6,7 +6,7 @@ use native.Mathlib.Omega.{arith}
 use borrow.Author.Needs.{needs}
 use lib.ListN.{length}
 use Rattle.basics.proofs.Eliminated.{next-at-most}
-use Rattle.squares.specs.Square.{is-in, said-before}
+use Rattle.pairs.specs.Square.{is-in, said-before}
 use Rattle.judge.specs.Ordered.{begin-of}
 use Rattle.judge.proofs.Rounds.{PutSoFar, put-none, put-length, put-more, put-all, put-full}
 use Rattle.judge.proofs.order.put_order.Statement.{statement}

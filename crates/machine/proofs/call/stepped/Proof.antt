@@ -7,7 +7,7 @@ use Rattle.rules.specs.Daylog.{commits-in}
 use Rattle.rules.specs.State.{state-of}
 use Rattle.rules.specs.Calls.{issued}
 use Rattle.rules.specs.Calls as rule
-use Rattle.rules.proofs.Unlent.{unlent}
+use Rattle.rules.proofs.Calls.Unlent.{unlent}
 use Rattle.machine.specs.View.{view}
 use Rattle.machine.proofs.Issuing.{told, open-left, neither-left, write-left, read-left, show-left, commit-left, post-left, order-left}
 use borrow.Author.Needs.{needs}

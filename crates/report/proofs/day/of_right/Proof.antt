@@ -4,7 +4,7 @@ use native.Mathlib.Omega.{arith}
 use denote.Ref.{now}
 use borrow.Author.Needs.{needs}
 use Rattle.rules.specs.Daylog.{records-in}
-use Rattle.rules.proofs.LaidOut.{laid-out-has}
+use Rattle.rules.proofs.Log.LaidOut.{laid-out-has}
 use Rattle.report.proofs.Reporting.{report-fits}
 use Rattle.report.proofs.day.of_right.Statement.{statement}
 use Rattle.report.proofs.day.of_right.Tie as tie

@@ -5,7 +5,7 @@ use lib.ListN.{length}
 use denote.Ref.{now}
 use borrow.Author.Needs.{needs}
 use Rattle.rules.specs.Sizes.{yard}
-use Rattle.rules.proofs.Shape.{size-within}
+use Rattle.rules.proofs.Books.Shape.{size-within}
 use Rattle.texts.proofs.Putting.{tail-is}
 use Rattle.report.specs.Told.{reported}
 use Rattle.report.proofs.Reporting.{report-short, report-whole}

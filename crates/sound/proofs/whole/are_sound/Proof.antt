@@ -14,10 +14,10 @@ use Rattle.rules.specs.declared.Size.{Size}
 use Rattle.rules.specs.Sizes.{most-records}
 use Rattle.rules.specs.Books.{Books, books-of, place-at, is-live, is-held, is-committed, live-count, room-taken}
 use Rattle.rules.specs.Sound.{sound, place-sound, differ}
-use Rattle.rules.proofs.Shape.{live-by-places}
+use Rattle.rules.proofs.Books.Shape.{live-by-places}
 use Rattle.survey.specs.declared.columns.Columns.{Columns}
-use Rattle.keys.specs.Apart.{apart}
-use Rattle.keys.proofs.Differ.{apart-is-differ}
+use Rattle.sound_keys.specs.Apart.{apart}
+use Rattle.sound_keys.proofs.Differ.{apart-is-differ}
 use Rattle.sound.proofs.whole.are_sound.Statement.{statement}
 use Rattle.sound.proofs.whole.are_sound.Tie as tie
 

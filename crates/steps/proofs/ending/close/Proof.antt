@@ -1,7 +1,7 @@
 -- `steps::ending::close` is close's rule: refused by its first reason, or closed. Rests on what the reasons, the refusal and the close are.
 use denote.Ref.{now}
-use Rattle.recording.specs.Left.{Leaves, LogIs}
-use Rattle.recording.specs.Stepped.{step-of}
+use Rattle.effects.specs.Left.{Leaves, LogIs}
+use Rattle.effects.specs.Stepped.{step-of}
 use Rattle.steps.proofs.Either.{refused-log, when-granted}
 use Rattle.steps.proofs.Known.{close-known}
 use Rattle.rules.specs.Steps.{close-rule}

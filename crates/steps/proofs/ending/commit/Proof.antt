@@ -1,7 +1,7 @@
 -- `steps::ending::commit` is commit's rule: refused by its first reason, or judged. Rests on what the reasons, the refusal and the judged commit are.
 use denote.Ref.{now}
-use Rattle.recording.specs.Left.{Leaves, TableAndLog}
-use Rattle.recording.specs.Stepped.{step-of}
+use Rattle.effects.specs.Left.{Leaves, TableAndLog}
+use Rattle.effects.specs.Stepped.{step-of}
 use Rattle.steps.proofs.Either.{refused-table, when-granted-at}
 use Rattle.steps.proofs.Known.{commit-known}
 use Rattle.rules.specs.Books.{books-of}

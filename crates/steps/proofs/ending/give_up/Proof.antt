@@ -1,7 +1,7 @@
 -- `steps::ending::give_up` is give up's rule: refused by its first reason, or given up. Rests on what the reasons, the refusal and the give up are.
 use denote.Ref.{now}
-use Rattle.recording.specs.Left.{Leaves, LogIs}
-use Rattle.recording.specs.Stepped.{step-of}
+use Rattle.effects.specs.Left.{Leaves, LogIs}
+use Rattle.effects.specs.Stepped.{step-of}
 use Rattle.steps.proofs.Either.{refused-log, when-granted-at}
 use Rattle.steps.proofs.Known.{give-up-known}
 use Rattle.rules.specs.Books.{books-of}

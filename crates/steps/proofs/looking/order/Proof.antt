@@ -1,7 +1,7 @@
 -- `steps::looking::order` is order's rule: refused by its first reason, or given. Rests on what the reasons, the refusal and the order are.
 use denote.Ref.{now}
-use Rattle.recording.specs.Left.{Leaves, BufferIs}
-use Rattle.recording.specs.Stepped.{step-of}
+use Rattle.effects.specs.Left.{Leaves, BufferIs}
+use Rattle.effects.specs.Stepped.{step-of}
 use Rattle.steps.proofs.Either.{refused-buffer, when-granted-at}
 use Rattle.steps.proofs.Known.{order-known}
 use Rattle.rules.specs.Books.{books-of}

@@ -1,6 +1,6 @@
 -- `steps::looking::show` is show's rule: an empty part, or the eight bytes themselves. Rests on what the reasons and the chosen part are.
 use denote.Ref.{now}
-use Rattle.recording.specs.Left.{Shows}
+use Rattle.effects.specs.Left.{Shows}
 use Rattle.steps.proofs.Either.{refused-shows, when-granted-at}
 use Rattle.steps.proofs.Known.{show-known}
 use Rattle.rules.specs.Books.{books-of}

@@ -1,7 +1,7 @@
 -- `steps::reading::write` is write's rule: refused by its first reason, or written. Rests on what the reasons, the refusal and the write are.
 use denote.Ref.{now}
-use Rattle.recording.specs.Left.{Leaves, DraftsAndLog}
-use Rattle.recording.specs.Stepped.{step-of}
+use Rattle.effects.specs.Left.{Leaves, DraftsAndLog}
+use Rattle.effects.specs.Stepped.{step-of}
 use Rattle.steps.proofs.Either.{refused-drafts, when-granted-with}
 use Rattle.steps.proofs.Known.{write-known}
 use Rattle.rules.specs.Books.{books-of}

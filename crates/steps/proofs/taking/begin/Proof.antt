@@ -1,7 +1,7 @@
 -- `steps::taking::begin` is begin's rule: refused by its first reason, or begun. Rests on what the reasons, the refusal and the begin are.
 use denote.Ref.{now}
-use Rattle.recording.specs.Left.{Leaves, LogIs}
-use Rattle.recording.specs.Stepped.{step-of}
+use Rattle.effects.specs.Left.{Leaves, LogIs}
+use Rattle.effects.specs.Stepped.{step-of}
 use Rattle.steps.proofs.Either.{refused-log, when-granted}
 use Rattle.steps.proofs.Known.{begin-known}
 use Rattle.rules.specs.Steps.{begin-rule}

@@ -1,7 +1,7 @@
 -- `steps::taking::post` is post's rule: refused by its first reason, or posted. Rests on what the reasons, the refusal and the post are.
 use denote.Ref.{now}
-use Rattle.recording.specs.Left.{Leaves, TableAndLog}
-use Rattle.recording.specs.Stepped.{step-of}
+use Rattle.effects.specs.Left.{Leaves, TableAndLog}
+use Rattle.effects.specs.Stepped.{step-of}
 use Rattle.steps.proofs.Either.{refused-table, when-granted-with}
 use Rattle.steps.proofs.Known.{post-known}
 use Rattle.rules.specs.Books.{books-of}

@@ -4,7 +4,7 @@ use lib.ListN.{length}
 use Rattle.rules.specs.State.{state-of}
 use Rattle.rules.specs.Steps.{commit-rule}
 use Rattle.machine.specs.View.{view}
-use Rattle.recording.specs.Left.{TableAndLog}
+use Rattle.effects.specs.Left.{TableAndLog}
 use Rattle.machine.proofs.Handed.{size-within, handed-back}
 use borrow.Author.Needs.{needs}
 use Rattle.machine.proofs.books.Books.commit.Statement.{statement}

@@ -4,7 +4,7 @@ use borrow.Author.Needs.{needs}
 use Rattle.rules.specs.Sizes.{Within}
 use Rattle.rules.specs.declared.Size.{Size}
 use Rattle.rules.specs.Sound.{sound}
-use Rattle.rules.proofs.Shape.{yard-within}
+use Rattle.rules.proofs.Books.Shape.{yard-within}
 use Rattle.machine.specs.View.{view}
 use Rattle.machine.proofs.books.Books.is_sound.Statement.{statement}
 use Rattle.machine.proofs.books.Books.is_sound.Tie as tie

@@ -3,7 +3,7 @@ use denote.Ref.{now, ptr}
 use Rattle.rules.specs.State.{state-of}
 use Rattle.rules.specs.Steps.{show-rule}
 use Rattle.machine.specs.View.{view}
-use Rattle.recording.specs.Left.{Shows}
+use Rattle.effects.specs.Left.{Shows}
 use Rattle.machine.proofs.Handed.{size-within, at-yard}
 use borrow.Author.Needs.{needs}
 use Rattle.machine.proofs.books.Books.show.Statement.{statement}

@@ -5,7 +5,7 @@ use mathlib.Core.List.{[]}
 use Rattle.rules.specs.State.{state-of}
 use Rattle.rules.specs.Steps.{write-rule}
 use Rattle.machine.specs.View.{view}
-use Rattle.recording.specs.Left.{DraftsAndLog}
+use Rattle.effects.specs.Left.{DraftsAndLog}
 use Rattle.machine.proofs.Handed.{size-within, handed-back}
 use borrow.Author.Needs.{needs}
 use Rattle.machine.proofs.books.Books.write.Statement.{statement}

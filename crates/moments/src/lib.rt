@@ -1,2 +1,0 @@
-// The moment of a transaction, and who is in its company.
-pub mod company;

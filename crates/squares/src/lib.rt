@@ -1,2 +1,0 @@
-// The square of pairs.
-pub mod square;
