@@ -1,18 +1,13 @@
 -- A call's step, done at the size of document 01's controller, is handed back as the answer of its rule. Rests on the controller's size.
-use mathlib.Core.Path.{_≡_, sym, _∙_, ap, subst}
+use mathlib.Core.Path.{_≡_, _∙_, ap, subst}
 use Rattle.rules.specs.declared.Size.{Size}
-use Rattle.rules.specs.Sizes.{Within, yard}
+use Rattle.rules.specs.Sizes.{yard}
 use Rattle.rules.specs.State.{Outcome}
-use Rattle.rules.proofs.Books.Shape.{yard-within}
 use Rattle.effects.specs.declared.Step.{Step}
 use Rattle.effects.specs.Left.{Leaves}
 use Rattle.effects.specs.Stepped.{step-of}
 use Rattle.machine.specs.declared.books.Answer.{Answer}
 use Rattle.machine.specs.View.{answer-of, answer-of-step}
-
--- the controller's size fits the arrays
-pub size-within : {z : Size} → z ≡ yard → Within z
-size-within size = subst Within (sym size) yard-within
 
 -- what a call leaves at that size, it leaves at document 01's
 pub at-yard : (left : Outcome → Type 0) (rule : Size → Outcome) {z : Size} → z ≡ yard → left (rule z) → left (rule yard)

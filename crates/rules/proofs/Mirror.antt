@@ -1,4 +1,5 @@
 -- Books, table and drafts mirror the day, call by call.
+pub mod Callers
 pub mod CellsRead
 pub mod CellsWritten
 pub mod CommittedHeld

@@ -5,8 +5,8 @@ use mathlib.Core.Bool.{Bool, false}
 use mathlib.Core.List.{List, []}
 use lib.ListN.{length}
 use Rattle.rules.specs.Sizes.{Size}
-use Rattle.rules.specs.Books.{Books, place-at, wrote}
-use Rattle.rules.specs.Handles.{place-of}
+use Rattle.rules.specs.Books.{Books, wrote}
+use Rattle.rules.specs.Handles.{place-of, named-place}
 use Rattle.rules.specs.Numbers.{Reason, granted}
 use Rattle.rules.specs.State.{State, Outcome}
 use Rattle.rules.specs.Judged.{Judged}
@@ -73,7 +73,7 @@ handed-on Close = granted
 
 -- the transaction of the handle has written the cell, by the books
 abbrev pub owns : Books → ℕ → ℕ → Bool
-owns b h c = wrote (place-at b (place-of h)) c
+owns b h c = wrote (named-place b h) c
 
 -- the judged calls, each with the handle that it is of and with what is weighed of it; `own` says which cells a handle's transaction has written
 pub data IsJudged (z : Size) (own : ℕ → ℕ → Bool) (s : State) : Call → ℕ → Judged → Type 0 where

@@ -15,6 +15,10 @@ handle-of i turn = i + handles-a-turn * turn
 abbrev pub place-of : ℕ → ℕ
 place-of h = h % handles-a-turn
 
+-- and what the books hold there
+abbrev pub named-place : Books → ℕ → Place
+named-place b h = place-at b (place-of h)
+
 -- the turn that a handle names
 abbrev pub turn-of : ℕ → ℕ
 turn-of h = h / handles-a-turn
@@ -25,11 +29,11 @@ out-of-range z h = leb handles h || leb (z .places) (place-of h)
 
 -- the turn agrees with the place's
 unfoldable pub turn-agrees : Books → ℕ → Bool
-turn-agrees b h = eqb (place-at b (place-of h) .turn) (turn-of h)
+turn-agrees b h = eqb (named-place b h .turn) (turn-of h)
 
--- a good handle: in range, its place held, the turn agrees (of sound books it is one that is not stale: `good-or-stale`, in proofs/Handles.antt)
+-- a good handle: in range, its place held, the turn agrees (of sound books it is one that is not stale: `good-or-stale`, in proofs/Books/HandleLaws.antt)
 unfoldable pub good-handle : Size → Books → ℕ → Bool
-good-handle z b h = not (out-of-range z h) && (is-held (place-at b (place-of h)) && turn-agrees b h)
+good-handle z b h = not (out-of-range z h) && (is-held (named-place b h) && turn-agrees b h)
 
 -- the five calls that take a handle to a transaction
 pub data Caller : Type 0 where
@@ -45,13 +49,13 @@ asks-live orders = false
 
 -- 3: handle out of range, place free, or turn differs
 unfoldable pub is-stale : Size → Books → ℕ → Bool
-is-stale z b h = out-of-range z h || (is-free (place-at b (place-of h)) || not (turn-agrees b h))
+is-stale z b h = out-of-range z h || (is-free (named-place b h) || not (turn-agrees b h))
 
 -- 4: turn agrees, place committed, call not order
 unfoldable pub is-ended : Size → Caller → Books → ℕ → Bool
-is-ended z who b h = asks-live who && (not (out-of-range z h) && (turn-agrees b h && is-committed (place-at b (place-of h))))
+is-ended z who b h = asks-live who && (not (out-of-range z h) && (turn-agrees b h && is-committed (named-place b h)))
 
--- ---- looked up by place status: in sound books the first of the reasons 3 and 4 (`looked-up-reasons`, in proofs/Handles.antt)
+-- ---- looked up by place status: in sound books the first of the reasons 3 and 4 (`looked-up-reasons`, in proofs/Books/HandleLaws.antt)
 
 -- free, always 3; live, goes on; committed, 4 for read, write, commit and give up, while order goes on
 unfoldable pub gate : Caller → ℕ → ℕ

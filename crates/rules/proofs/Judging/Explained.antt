@@ -12,11 +12,11 @@ use native.Mathlib.Omega.{arith}
 use borrow.Author.Tests.{eqb-true, eq-eqb}
 use Rattle.basics.specs.Lists.{anyIn}
 use Rattle.basics.specs.Walk.{Cycle}
-use Rattle.basics.proofs.Bools.{split, clash, false-of-not, and-left, and-right, and-both, and-fails-right, or-true, or-left, or-right, or-false-right, cond-passes, cond-fails}
+use Rattle.basics.proofs.Bools.{split, clash, false-of-not, and-left, and-right, and-both, and-fails-right, or-true, or-right, cond-passes, cond-fails}
 use Rattle.basics.proofs.Walk.{first-step, map-cycle, cycle-followed}
 use Rattle.rules.specs.declared.Record.{Record}
 use Rattle.rules.specs.Sizes.{Size}
-use Rattle.rules.specs.Kinds.{begin-kind, commit-kind, post-kind, kind-starts, kind-commits, kind-judged-read, kind-judged, kind-sets-moment}
+use Rattle.rules.specs.Kinds.{kind-starts, kind-commits, kind-judged-read, kind-judged, kind-sets-moment}
 use Rattle.rules.specs.Layout.{walks}
 use Rattle.rules.specs.Day.{Event, whose, event, events, is-transaction, commit-of, committed, moment-of, wrote-cell, company-of, day-real-time, day-write-write, day-write-read, day-read-write, day-before}
 use Rattle.rules.specs.Runs.{DayPair}
@@ -26,7 +26,7 @@ use Rattle.rules.proofs.Day.Events.{event-in, whose-starts, who-transac
 use Rattle.rules.proofs.Day.Commits.{commit-at-most, committed-cases, committed-begun, committed-ends}
 use Rattle.rules.proofs.Day.Settled.{settled, committed-then}
 use Rattle.rules.proofs.Day.CompanyListed.{company-says}
-use Rattle.rules.proofs.Log.KindLaws.{sets-commits, sets-nothing}
+use Rattle.rules.proofs.Log.KindLaws.{sets-commits, sets-nothing, sets-judged}
 use Rattle.rules.proofs.Day.Moments.{begun-earlier, none-yet, moment-more, moment-counted}
 use Rattle.rules.proofs.Day.PairsArise.{begun-before, one-more}
 use Rattle.rules.proofs.Replay.PairsInTime.{newest}
@@ -45,21 +45,6 @@ pub record Explained (z : Size) (day : List Record) : Type 0 where
 pub explained-new : (z : Size) → Explained z []
 unfolding events is-transaction committed anyIn
 explained-new z = record { each = λ t i. absurd (false≢true i); all = λ c. false≢true (first-step (c .1) .1 .0) }
-
--- ---- kinds
-
-module _ (k : ℕ) where
-  -- a kind that sets the moment and starts nothing is a judged kind
-  sets-judged : kind-sets-moment k ≡ true → kind-starts k ≡ false → kind-judged k ≡ true
-  unfolding kind-sets-moment kind-starts kind-commits kind-judged
-  sets-judged e s =
-      let reads = kind-judged-read k in
-      let post = eqb k post-kind in
-      ⊎-elim (or-left reads (eqb k commit-kind))
-      (λ c.
-      ⊎-elim (or-right reads (eqb k commit-kind)) (λ p. absurd (clash p (or-false-right (eqb k begin-kind) post s)))
-      (or-true (eqb k commit-kind) post c))
-      (or-true reads (kind-commits k) (rw s at e))
 
 -- ---- one who has not begun
 

@@ -22,7 +22,7 @@ use Rattle.rules.specs.Run.{Machine, after-call}
 use Rattle.rules.proofs.Books.CellLaws.{cell-length, cell-in-bytes, draft-length, draft-in-bytes}
 use Rattle.rules.proofs.Mirror.Mirrors.{Mirrored, Valued}
 use Rattle.rules.proofs.Mirror.DayGrows.{valued-quiet, stays-same, stays-read-marked}
-use Rattle.rules.proofs.Mirror.CellsWritten.{caller-proper, caller-whose, caller-changed}
+use Rattle.rules.proofs.Mirror.Callers.{caller-proper, caller-whose, caller-changed}
 
 module _ (z : Size) (l : Lending) (m : Machine) (w : Within z) (mirror : Mirrored z (m .state .books) (m .day)) (valued : Valued z m) where
   abbrev s : State

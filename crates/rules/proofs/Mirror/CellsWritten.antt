@@ -1,7 +1,7 @@
 -- The calls that change table or drafts keep them in step with the day: a write, a commit and a post. Rests on the mirror of the books in the
 -- day and on the laws of cells. Assumes nothing.
 use Prim.Native.Nat.{ℕ, suc, _<_}
-use mathlib.Core.Path.{_≡_, refl, sym, _∙_, ap, subst}
+use mathlib.Core.Path.{_≡_, refl, sym, _∙_, ap}
 use mathlib.Core.Logic.{_≢_}
 use mathlib.Core.Bool.{true, false, _&&_}
 use mathlib.Core.List.{List, _∷_}
@@ -14,65 +14,27 @@ use Rattle.basics.specs.Bytes.{AreBytes}
 use Rattle.basics.proofs.Bools.{split, equal-or-not, cond-passes, cond-fails}
 use Rattle.rules.specs.declared.Place.{Place}
 use Rattle.rules.specs.declared.Record.{Record}
-use Rattle.rules.specs.Sizes.{Size, Within, cell-bytes, turns}
-use Rattle.rules.specs.Books.{Books, place-at, held-status, is-live, wrote, posted, marked, sealed, with-place, lowest-free, number-of}
+use Rattle.rules.specs.Sizes.{Size, Within, cell-bytes}
+use Rattle.rules.specs.Books.{Books, place-at, is-live, wrote, posted, marked, sealed, with-place, lowest-free, number-of}
 use Rattle.rules.specs.Handles.{place-of}
 use Rattle.rules.specs.Cells.{draft-of, with-cell, with-draft, laid-over}
 use Rattle.rules.specs.Kinds.{write-kind, commit-kind, post-kind, kind-starts, kind-commits, kind-writes, kind-judged-read, kind-own-read}
-use Rattle.rules.specs.Daylog.{Proper, no-value}
+use Rattle.rules.specs.Daylog.{no-value}
 use Rattle.rules.specs.State.{State, recorded, record-at}
-use Rattle.rules.specs.Day.{Event, whose, event, events, wrote-cell, written-value}
+use Rattle.rules.specs.Day.{Event, event, events, wrote-cell, written-value}
 use Rattle.rules.specs.Judged.{books-granted, granted-of}
 use Rattle.rules.specs.Steps.{judged-commit, write-of, post-of}
 use Rattle.rules.specs.Calls.{Lending}
-use Rattle.rules.specs.Kept.{LiveCaller, WriteAsked, CommitAsked, PostAsked}
+use Rattle.rules.specs.Kept.{WriteAsked, CommitAsked, PostAsked}
 use Rattle.rules.specs.Run.{Machine, after-call}
-use Rattle.rules.proofs.Books.HandleLaws.{turn-of-below, place-of-below}
-use Rattle.rules.proofs.Day.Events.{begin-bound, whose-starts, whose-others}
-use Rattle.rules.proofs.Day.Commits.{begins-differ}
+use Rattle.rules.proofs.Books.HandleLaws.{place-of-below}
+use Rattle.rules.proofs.Day.Events.{begin-bound, whose-starts}
 use Rattle.rules.proofs.Day.Moments.{none-yet}
 use Rattle.rules.proofs.Books.CellLaws.{with-cell-length, with-cell-in-bytes, cell-put, cell-elsewhere, draft-length, draft-in-bytes, with-draft-length, with-draft-in-bytes, draft-put, draft-of-other, draft-elsewhere, laid-over-bytes, laid-over-length, laid-over-at}
 use Rattle.rules.proofs.Day.LastWrites.{wrote-past, value-past, wrote-elsewhere, value-elsewhere, value-of-other, wrote-here, value-here, last-elsewhere, last-here}
-use Rattle.rules.proofs.Mirror.Mirrors.{Holds, Mirrored, Valued}
-use Rattle.rules.proofs.Mirror.DayGrows.{DraftRight, DraftsRight, TableRight, reads-nothing, StaysLive, AsBefore, valued-adds, table-past, drafts-past, stays-sealed, stays-posted, changed-one, drafts-changed, zeros-in-bytes, proper-at, posted-turn}
-
--- ---- live places
-
-module _ (z : Size) (m : Machine) (mirror : Mirrored z (m .state .books) (m .day)) where
-  abbrev books : Books
-  books = m .state .books
-
-  -- a live place holds its transaction, and no two live places hold one
-  live-holds : (i : ℕ) → i < z .places → place-at books i .status ≡ 1 → Holds z (m .day) i (place-at books i)
-  live-holds i h live = mirror .places i h .holds (ap held-status live)
-
-  live-differ : (i j : ℕ) → i < z .places → j < z .places → place-at books i .status ≡ 1 → place-at books j .status ≡ 1
-      → place-at books i .begin ≡ place-at books j .begin → i ≡ j
-  live-differ i j h k live there e =
-      begins-differ z (m .day) (mirror .walking) i j (omega (arith, mirror .places i h .status)) (omega (arith, mirror .places j k .status))
-      (live-holds i h live .begin ∙ e ∙ sym (live-holds j k there .begin))
-
-  -- ---- a live caller
-
-  module _ (h : ℕ) (caller : LiveCaller z books h) where
-    abbrev i : ℕ
-    i = place-of h
-
-    abbrev p : Place
-    p = place-at books i
-
-    -- its record fits
-    pub caller-proper : Within z → (kind c : ℕ) (value : List ℕ) → kind < 256 → c < 256 → length value ≡ cell-bytes → AreBytes value → Proper (record-at kind i p c value)
-    caller-proper w kind c value k d =
-        proper-at z kind i p c value w k (caller .place) (subst (λ (t : ℕ). t < turns) (sym (caller .turn)) (turn-of-below h (caller .below))) d
-
-    -- it is of the caller's transaction
-    pub caller-whose : (kind c : ℕ) (value : List ℕ) → kind-starts kind ≡ false → whose (m .day) (record-at kind i p c value) ≡ p .begin
-    caller-whose kind c value k = whose-others (m .day) (record-at kind i p c value) k ∙ live-holds i (caller .place) (caller .live) .begin
-
-    -- its place changed
-    pub caller-changed : (q : Place) → StaysLive p q → AsBefore z books (with-place books i q)
-    caller-changed q = changed-one z books i q (mirror .shape) (place-of-below h)
+use Rattle.rules.proofs.Mirror.Mirrors.{Mirrored, Valued}
+use Rattle.rules.proofs.Mirror.Callers.{live-holds, live-differ, caller-proper, caller-whose, caller-changed}
+use Rattle.rules.proofs.Mirror.DayGrows.{DraftRight, DraftsRight, TableRight, reads-nothing, valued-adds, table-past, drafts-past, stays-sealed, stays-posted, changed-one, drafts-changed, zeros-in-bytes, proper-at, posted-turn}
 
 -- ---- the three calls
 

@@ -6,7 +6,7 @@ use mathlib.Core.Logic.{Iff·rfl}
 use mathlib.Core.Bool.{true, false, cond, _&&_}
 use mathlib.Core.List.{List, _∷_}
 use lib.ListN.{length}
-use lib.Dec.{ltb, leb, eqb}
+use lib.Dec.{ltb, eqb}
 use native.Mathlib.Omega.{arith}
 use borrow.Author.Tests.{eq-eqb, lt-ltb}
 use Rattle.basics.specs.Lists.{member}
@@ -17,10 +17,10 @@ use Rattle.rules.specs.declared.Place.{Place}
 use Rattle.rules.specs.declared.Record.{Record}
 use Rattle.rules.specs.Sizes.{Size, Within, width}
 use Rattle.rules.specs.Books.{Books, Shaped, place-at, wrote, freed, begun, posted, marked, with-place, with-record, lowest-free, number-of}
-use Rattle.rules.specs.Handles.{place-of}
+use Rattle.rules.specs.Handles.{place-of, named-place}
 use Rattle.rules.specs.Sound.{Sound}
 use Rattle.rules.specs.Cells.{draft-of}
-use Rattle.rules.specs.Kinds.{lowest-kind, highest-kind, begin-kind, judged-read-kind, own-read-kind, write-kind, commit-kind, give-up-kind, read-conflict-kind, commit-conflict-kind, post-kind, kind-starts, kind-frees, kind-own-read, kind-table-read, kind-has-cell, kind-has-value}
+use Rattle.rules.specs.Kinds.{kind-known, begin-kind, judged-read-kind, own-read-kind, write-kind, commit-kind, give-up-kind, read-conflict-kind, commit-conflict-kind, post-kind, kind-starts, kind-frees, kind-own-read, kind-table-read, kind-has-cell, kind-has-value}
 use Rattle.rules.specs.Daylog.{no-value}
 use Rattle.rules.specs.Layout.{seat, fits, fields-right}
 use Rattle.rules.specs.State.{Outcome, refused, recorded, record-at}
@@ -37,6 +37,7 @@ use Rattle.rules.proofs.Log.KindLaws.{frees-only}
 use Rattle.rules.proofs.Books.Shape.{wide-freed, place-at-same, place-at-other, shaped-with-place}
 use Rattle.rules.proofs.Calls.SoundCalls.{shape-judged, shape-each, sound-judged, sound-each}
 use Rattle.rules.proofs.Log.Seats.{LiveSeat}
+use Rattle.rules.proofs.Mirror.Callers.{caller-mirrors, caller-holds}
 use Rattle.rules.proofs.Mirror.MirrorNew.{mirrored-opened, mirrored-closed}
 use Rattle.rules.proofs.Mirror.MirrorStep.{mirrored-more}
 use Rattle.rules.proofs.Mirror.MirrorKinds.{mirrors-freed, mirrors-begun, mirrors-posted, mirrors-marked, mirrors-own-read, mirrors-read, mirrors-sealed}
@@ -44,7 +45,7 @@ use Rattle.rules.proofs.Mirror.MirrorKinds.{mirrors-freed, mirrors-begu
 -- ---- the record of a call
 
 -- it is right by itself
-right : (z : Size) (r : Record) → leb lowest-kind (r .kind) && leb (r .kind) highest-kind ≡ true → r .place < z .places
+right : (z : Size) (r : Record) → kind-known (r .kind) ≡ true → r .place < z .places
     → cond (kind-has-cell (r .kind)) (ltb (r .cell) (z .cells)) (eqb (r .cell) 0) ≡ true
     → (eqb (r .spare) 0 && eqb (r .gap) 0) && cond (kind-has-value (r .kind)) true (same (r .value) no-value) ≡ true → fields-right z r ≡ true
 unfolding fields-right
@@ -95,14 +96,13 @@ module _ (z : Size) (l : Lending) (m : Machine) (w : Within z) (mirror : Mirrore
     i = place-of h
 
     abbrev p : Place
-    p = place-at b i
+    p = named-place b h
 
-    -- it mirrors its seat, and is held
     here : Mirrors z day i p
-    here = mirror .places i (caller .place)
+    here = caller-mirrors z m mirror h caller
 
     held : Holds z day i p
-    held = here .holds (rw (caller .live))
+    held = caller-holds z m mirror h caller
 
     -- a record that starts nothing, and what it asks of its cell
     caller-fits : (kind c : ℕ) (value : List ℕ) → kind-starts kind ≡ false → (kind-own-read kind ≡ true → (c < z .cells) × (wrote p c ≡ true))
@@ -126,7 +126,7 @@ module _ (z : Size) (l : Lending) (m : Machine) (w : Within z) (mirror : Mirrore
 
   -- what the records of a judged call are behind the day: that which it would add, with whatever value, and that of its Conflict
   record RecordsFit (h : ℕ) (j : Judged) : Type 0 where
-    known : leb lowest-kind (j .kind) && leb (j .kind) highest-kind ≡ true
+    known : kind-known (j .kind) ≡ true
     fit : (value : List ℕ) → fits day (record-at (j .kind) (place-of h) (place-at b (place-of h)) (j .cell) value) ≡ true
     mirrors : (value : List ℕ) → Mirrors z (record-at (j .kind) (place-of h) (place-at b (place-of h)) (j .cell) value ∷ day) (place-of h) (j .place)
     back-fit : fits day (record-at (j .back) (place-of h) (place-at b (place-of h)) (j .cell) no-value) ≡ true

@@ -8,7 +8,7 @@ use Rattle.basics.specs.Bytes.{AreBytes}
 use Rattle.rules.specs.declared.Place.{Place}
 use Rattle.rules.specs.Sizes.{Size, Within, width}
 use Rattle.rules.specs.Books.{Books, place-at, freed, begun, with-place, opened, closed, lowest-free, number-of}
-use Rattle.rules.specs.Handles.{place-of}
+use Rattle.rules.specs.Handles.{place-of, named-place}
 use Rattle.rules.specs.Kinds.{begin-kind, give-up-kind, kind-commits, kind-frees, kind-writes, kind-judged-read, kind-own-read}
 use Rattle.rules.specs.Daylog.{no-value}
 use Rattle.rules.specs.State.{State, Outcome, adds, refused, recorded, with-books, record-at}
@@ -24,7 +24,8 @@ use Rattle.rules.proofs.Log.KindLaws.{frees-only}
 use Rattle.rules.proofs.Mirror.Mirrors.{Mirrored, Valued}
 use Rattle.rules.proofs.Mirror.DayGrows.{NobodyLive, nobody-opened, nobody-closed, nobody-at-start, valued-new-day, reads-nothing, valued-quiet, stays-freed, stays-begun, changed-one, zeros-in-bytes, proper-at, begun-turn}
 use Rattle.rules.proofs.Mirror.CellsRead.{valued-read, valued-own-read}
-use Rattle.rules.proofs.Mirror.CellsWritten.{caller-proper, caller-changed, valued-write, valued-commit, valued-post}
+use Rattle.rules.proofs.Mirror.Callers.{caller-proper, caller-changed}
+use Rattle.rules.proofs.Mirror.CellsWritten.{valued-write, valued-commit, valued-post}
 
 -- a machine at the start of a day
 pub valued-new : (z : Size) (m : Machine) → Starts z m → Valued z m
@@ -51,7 +52,7 @@ module _ (z : Size) (l : Lending) (m : Machine) (w : Within z) (mirror : Mirrore
     i = place-of h
 
     abbrev p : Place
-    p = place-at b i
+    p = named-place b h
 
     valued-freed : (kind c : ℕ) → kind-frees kind ≡ true → c < width → Valued z (moved-on m (with-books s (with-place b i (freed p))) (adds (record-at kind i p c no-value)))
     valued-freed kind c k inside =

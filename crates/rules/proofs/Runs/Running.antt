@@ -25,7 +25,7 @@ use Rattle.rules.specs.Layout.{walks, EachRecord}
 use Rattle.rules.specs.Day.{events, event, is-transaction, whose}
 use Rattle.rules.specs.Runs.{Starts, value-taken, InBytes, ran, Reached, DayPair}
 use Rattle.rules.specs.History.{as-granted}
-use Rattle.rules.proofs.Mirror.CellsWritten.{caller-whose}
+use Rattle.rules.proofs.Mirror.Callers.{caller-whose}
 use Rattle.rules.proofs.Day.Events.{who-transaction}
 use Rattle.rules.proofs.Calls.EachCall.{AskedOf, EachOutcome, each-call}
 use Rattle.rules.proofs.Judging.Explained.{Explained, explained-new, explained-more}

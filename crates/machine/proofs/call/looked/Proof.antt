@@ -5,7 +5,7 @@ use Rattle.rules.specs.declared.Size.{Size}
 use Rattle.rules.specs.Numbers.{first-reason}
 use Rattle.rules.specs.Steps.{show-reasons}
 use Rattle.machine.specs.View.{view}
-use Rattle.machine.proofs.Handed.{size-within}
+use Rattle.rules.proofs.Books.Shape.{size-within}
 use borrow.Author.Needs.{needs}
 use Rattle.machine.proofs.call.looked.Statement.{statement}
 use Rattle.machine.proofs.call.looked.Tie as tie

@@ -6,7 +6,8 @@ use Rattle.rules.specs.State.{state-of}
 use Rattle.rules.specs.Steps.{give-up-rule}
 use Rattle.machine.specs.View.{view}
 use Rattle.effects.specs.Left.{LogIs}
-use Rattle.machine.proofs.Handed.{size-within, handed-back}
+use Rattle.rules.proofs.Books.Shape.{size-within}
+use Rattle.machine.proofs.Handed.{handed-back}
 use borrow.Author.Needs.{needs}
 use Rattle.machine.proofs.books.Books.give_up.Statement.{statement}
 use Rattle.machine.proofs.books.Books.give_up.Tie as tie

@@ -5,7 +5,8 @@ use Rattle.rules.specs.State.{state-of}
 use Rattle.rules.specs.Steps.{read-rule}
 use Rattle.machine.specs.View.{view}
 use Rattle.effects.specs.Left.{LogIs}
-use Rattle.machine.proofs.Handed.{size-within, handed-back}
+use Rattle.rules.proofs.Books.Shape.{size-within}
+use Rattle.machine.proofs.Handed.{handed-back}
 use borrow.Author.Needs.{needs}
 use Rattle.machine.proofs.books.Books.read.Statement.{statement}
 use Rattle.machine.proofs.books.Books.read.Tie as tie

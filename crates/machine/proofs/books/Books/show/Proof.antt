@@ -4,7 +4,8 @@ use Rattle.rules.specs.State.{state-of}
 use Rattle.rules.specs.Steps.{show-rule}
 use Rattle.machine.specs.View.{view}
 use Rattle.effects.specs.Left.{Shows}
-use Rattle.machine.proofs.Handed.{size-within, at-yard}
+use Rattle.rules.proofs.Books.Shape.{size-within}
+use Rattle.machine.proofs.Handed.{at-yard}
 use borrow.Author.Needs.{needs}
 use Rattle.machine.proofs.books.Books.show.Statement.{statement}
 use Rattle.machine.proofs.books.Books.show.Tie as tie
