@@ -16,7 +16,7 @@ use Rattle.rules.specs.Checker.{checked}
 use Rattle.rules.specs.Report.{refused-line}
 use Rattle.script.specs.Numeral.{no-number, number-of}
 use Rattle.accept.specs.declared.list.Numbers.{Numbers}
-use Rattle.accept.specs.Listed.{word-number, most-kept, with-number, answer-line}
+use Rattle.accept.specs.Words.{word-number, most-kept, with-number, answer-line}
 
 -- ---- a word
 

@@ -4,7 +4,7 @@ ghost use Prim.Native.Nat.{_≤_};
 ghost use lib.ListN.{length, take, drop};
 ghost use Rattle.rules.specs.Sizes.{yard, table-bytes};
 ghost use Rattle.rules.specs.Checker.{checked};
-ghost use Rattle.accept.specs.Listed.{Roomy, answer-line};
+ghost use Rattle.accept.specs.Words.{Roomy, answer-line};
 use crate::list::Numbers;
 use checker::proposal;
 use rules::numbers;

@@ -2,7 +2,7 @@
 ghost use mathlib.Core.Path.{_≡_};
 ghost use Prim.Native.Nat.{_≤_};
 ghost use Rattle.script.specs.Numeral.{no-number};
-ghost use Rattle.accept.specs.Listed.{word-number, Roomy, none-listed, with-number};
+ghost use Rattle.accept.specs.Words.{word-number, Roomy, none-listed, with-number};
 use rules::sizes;
 use script::numbers;
 

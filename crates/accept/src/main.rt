@@ -2,7 +2,7 @@
 mod answer;
 mod list;
 
-ghost use Rattle.accept.specs.Listed.{Roomy};
+ghost use Rattle.accept.specs.Words.{Roomy};
 use libc::STDIN_FILENO;
 use libc::STDOUT_FILENO;
 use list::Numbers;

@@ -3,13 +3,13 @@ pub mod Bools
 pub mod Bytes
 pub mod Copied
 pub mod Each
+pub mod Earlier
 pub mod Elements
 pub mod Eliminated
 pub mod Elimination
 pub mod Filled
 pub mod Flags
 pub mod Indexed
-pub mod Listed
 pub mod Lists
 pub mod Parted
 pub mod Regrouped

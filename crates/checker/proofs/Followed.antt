@@ -25,7 +25,7 @@ use Rattle.check_replay.specs.Kept.{Kept, mark, holder-after, laid, followed}
 use Rattle.check_explain.specs.Explained.{PastOnly}
 use Rattle.checker.proofs.Arrays.{mark-only, mark-within, laid-length, laid-bounded, laid-at}
 use Rattle.check_list.proofs.Positions.{position-found, position-member, position-only}
-use Rattle.checker.proofs.Mirrored.{latest-write, table-record, Mirrors, walks-fields, wrote-told}
+use Rattle.checker.proofs.KeptMirrored.{latest-write, table-record, Mirrors, walks-fields, wrote-told}
 
 -- ---- tests
 

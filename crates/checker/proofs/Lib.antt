@@ -1,7 +1,7 @@
 pub mod Answered
 pub mod Arrays
 pub mod Followed
-pub mod Mirrored
+pub mod KeptMirrored
 pub mod Overtaken
 pub mod Refused
 pub mod Replaying

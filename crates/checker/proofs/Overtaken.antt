@@ -24,7 +24,7 @@ use Rattle.check_list.specs.Listed.{position}
 use Rattle.check_replay.specs.Kept.{Kept, mark}
 use Rattle.check_later.specs.Later.{committed-later, used-later, any-used-later, overtaken}
 use Rattle.check_list.proofs.Positions.{position-found}
-use Rattle.checker.proofs.Mirrored.{Mirrors, walks-fields, committed-told, wrote-told}
+use Rattle.checker.proofs.KeptMirrored.{Mirrors, walks-fields, committed-told, wrote-told}
 
 -- ---- kinds
 

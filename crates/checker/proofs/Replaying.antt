@@ -29,7 +29,7 @@ use Rattle.check_list.specs.Listed.{position, all-in-time}
 use Rattle.check_later.specs.Later.{overtaken}
 use Rattle.check_explain.specs.Explained.{CellRight, value-at, source, read-explained, own-explained, explained}
 use Rattle.check_list.proofs.Positions.{position-found, position-member, keeps-position}
-use Rattle.checker.proofs.Mirrored.{latest-write, Mirrors, walks-fields, committed-told}
+use Rattle.checker.proofs.KeptMirrored.{latest-write, Mirrors, walks-fields, committed-told}
 use Rattle.checker.proofs.Followed.{cell-within}
 use Rattle.checker.proofs.Valued.{value-of-bytes, valued, write-valued, table-valued, own-read-wrote}
 use Rattle.checker.proofs.Overtaken.{written-later-told, read-arises, none-arises, overtaken-told}

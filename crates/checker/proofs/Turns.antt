@@ -24,7 +24,7 @@ use Rattle.log_back.proofs.FollowedLog.{walks-first}
 use Rattle.check_replay.specs.Kept.{Kept, fresh, whose-kept, followed}
 use Rattle.check_list.specs.Listed.{position, all-in-time}
 use Rattle.check_explain.specs.Explained.{PastOnly, CellRight, explained}
-use Rattle.checker.proofs.Mirrored.{Mirrors, mirrors-fresh, whose-mirrored}
+use Rattle.checker.proofs.KeptMirrored.{Mirrors, mirrors-fresh, whose-mirrored}
 use Rattle.checker.proofs.Followed.{mirrors-more}
 use Rattle.check_list.proofs.Positions.{position-member}
 use Rattle.checker.proofs.Replaying.{explained-says, unlisted-right, in-time-says, cell-right, place-within}

@@ -29,7 +29,7 @@ use Rattle.rules.proofs.Log.LaidOut.{fits-says}
 use Rattle.rules.proofs.Day.Events.{event-cases, whose-starts, whose-others}
 use Rattle.rules.proofs.Log.StandingLog.{length-day-of}
 use Rattle.check_explain.specs.Explained.{value-at, source}
-use Rattle.checker.proofs.Mirrored.{latest-write, table-record, wrote-told}
+use Rattle.checker.proofs.KeptMirrored.{latest-write, table-record, wrote-told}
 
 -- ---- a record's bytes
 

@@ -2,7 +2,7 @@
 ghost use mathlib.Core.Path.{_≡_};
 ghost use Prim.Native.Nat.{_<_};
 ghost use lib.ListN.{take};
-ghost use Rattle.script.specs.Calls.{value-on};
+ghost use Rattle.script.specs.LineCalls.{value-on};
 ghost use Rattle.machine.specs.Promises.{call-outcome, LeavesAll};
 ghost use Rattle.making.specs.Made.{kind-for, call-for};
 use machine::books::Answer;

@@ -12,7 +12,7 @@ use Rattle.rules.specs.declared.Place.{Place}
 use Rattle.rules.specs.declared.Size.{Size}
 use Rattle.rules.specs.Books.{is-committed, wrote, first-read, last-read}
 use Rattle.rules.specs.Judging.{write-write, write-read, read-write}
-use Rattle.pairs.specs.Cells.{overlap-of, read-after-of, read-before-of, comes-first}
+use Rattle.pairs.specs.CellPass.{overlap-of, read-after-of, read-before-of, comes-first}
 use Rattle.pairs.specs.Commits.{commit-or}
 
 module _ (z : Size) (k m : Place) where

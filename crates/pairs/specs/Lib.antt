@@ -1,3 +1,3 @@
-pub mod Cells
+pub mod CellPass
 pub mod Commits
 pub mod Square

@@ -2,7 +2,7 @@
 ghost use mathlib.Core.Path.{_≡_};
 ghost use Prim.Native.Nat.{_≤_};
 ghost use Rattle.rules.specs.Sizes.{width};
-ghost use Rattle.pairs.specs.Cells.{overlap-of};
+ghost use Rattle.pairs.specs.CellPass.{overlap-of};
 
 // Whether two arrays have a mark in common below the limit.
 pub fn overlap(a: [bool; 32], b: [bool; 32], limit: usize) -> bool

@@ -3,7 +3,7 @@ ghost use mathlib.Core.Path.{_≡_};
 ghost use Prim.Native.Nat.{_≤_};
 ghost use Rattle.rules.specs.Sizes.{Within, width};
 ghost use Rattle.rules.specs.Judging.{real-time, precedes};
-ghost use Rattle.pairs.specs.Cells.{comes-first};
+ghost use Rattle.pairs.specs.CellPass.{comes-first};
 ghost use Rattle.pairs.specs.Commits.{commit-or};
 use rules::Place;
 use rules::Size;

@@ -14,7 +14,7 @@ use Rattle.rules.specs.declared.Size.{Size}
 use Rattle.rules.specs.Sizes.{handles}
 use Rattle.rules.specs.Numbers.{stale}
 use Rattle.rules.specs.Handles.{Caller, asks-live, gate, out-of-range, looked-up, place-of, turn-of}
-use Rattle.place.specs.Calls.{caller}
+use Rattle.place.specs.Rows.{caller}
 
 -- ---- the table
 

@@ -1,2 +1,2 @@
 -- The rows of the gate's table.
-pub mod Calls
+pub mod Rows

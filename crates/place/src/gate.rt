@@ -3,7 +3,7 @@ ghost use mathlib.Core.Path.{_≡_};
 ghost use mathlib.Core.Bool.{false};
 ghost use Prim.Native.Nat.{_<_, _≤_};
 ghost use Rattle.rules.specs.Handles.{gate, looked-up, out-of-range};
-ghost use Rattle.place.specs.Calls.{caller};
+ghost use Rattle.place.specs.Rows.{caller};
 use crate::handle;
 use rules::Place;
 use rules::Size;

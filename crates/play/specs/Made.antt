@@ -7,7 +7,7 @@ use lib.Dec.{eqb, leb}
 use lib.ListN.{take, replicate}
 use Rattle.rules.specs.State.{Outcome, log-after}
 use Rattle.texts.specs.Placed.{with-text}
-use Rattle.script.specs.Calls.{value-on}
+use Rattle.script.specs.LineCalls.{value-on}
 use Rattle.machine.specs.declared.books.Books.{Books}
 use Rattle.machine.specs.View.{answer-of}
 use Rattle.machine.specs.Promises.{call-outcome}

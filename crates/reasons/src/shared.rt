@@ -7,7 +7,7 @@ ghost use Rattle.rules.specs.Sizes.{Within, table-bytes, drafts-bytes};
 ghost use Rattle.rules.specs.Books.{books-of, no-free, live-count};
 ghost use Rattle.rules.specs.Numbers.{full, _if_, first-reason, wrong};
 ghost use Rattle.rules.specs.Steps.{soundness-reason, handle-reasons, handle-cell-reasons, cell-reason, room-reason};
-ghost use Rattle.place.specs.Calls.{caller};
+ghost use Rattle.place.specs.Rows.{caller};
 use place::gate;
 use place::handle;
 use rules::Place;

@@ -16,7 +16,7 @@ use Rattle.rules.specs.Report.{log-report, refused-line, report}
 use Rattle.texts.specs.Said.{placed, joined}
 use Rattle.texts.proofs.Fitting.{joined-append, all-fit}
 use Rattle.texts.proofs.Saying.{then-placed}
-use Rattle.report.specs.Told.{first-told, all-told, reported, report-room}
+use Rattle.report.specs.Reported.{first-told, all-told, reported, report-room}
 use Rattle.report.proofs.Telling.{first-short, all-short, first-is, all-are}
 
 -- ---- the report of a well laid out log

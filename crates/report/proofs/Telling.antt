@@ -18,9 +18,9 @@ use Rattle.texts.specs.Said.{placed, joined}
 use Rattle.texts.proofs.Fitting.{joined-append, decimal-few}
 use Rattle.texts.proofs.Saying.{then-placed}
 use Rattle.log_back.specs.declared.transaction.Transaction.{Transaction}
-use Rattle.log_back.specs.Told.{standing-number, transaction-of}
+use Rattle.log_back.specs.Course.{standing-number, transaction-of}
 use Rattle.log_back.proofs.Starts.{starts-told}
-use Rattle.report.specs.Told.{word-told, labelled, first-told, told, all-told}
+use Rattle.report.specs.Reported.{word-told, labelled, first-told, told, all-told}
 
 -- ---- one record more
 

@@ -6,7 +6,7 @@ ghost use lib.ListN.{length, take};
 ghost use Rattle.rules.specs.Sizes.{Within, yard};
 ghost use Rattle.rules.specs.Layout.{well-laid-out};
 ghost use Rattle.rules.specs.Report.{log-report, report};
-ghost use Rattle.report.specs.Told.{report-room, reported};
+ghost use Rattle.report.specs.Reported.{report-room, reported};
 use crate::lines;
 use log_layout::layout;
 use log_read::reader;

@@ -6,7 +6,7 @@ ghost use Rattle.rules.specs.Daylog.{records-in};
 ghost use Rattle.rules.specs.Layout.{well-laid-out};
 ghost use Rattle.texts.specs.Placed.{after-text, with-text};
 ghost use Rattle.texts.specs.Said.{placed};
-ghost use Rattle.report.specs.Told.{word-told, labelled, first-told, told, all-told};
+ghost use Rattle.report.specs.Reported.{word-told, labelled, first-told, told, all-told};
 use log_back::entry;
 use log_back::transaction;
 use log_back::transaction::Transaction;

@@ -16,7 +16,7 @@ use Rattle.basics.proofs.Search.{least-first, least-skips}
 use Rattle.script.specs.Blanks.{word-start, word-of}
 use Rattle.script.specs.Hex.{is-hex, value-bytes}
 use Rattle.script.specs.Numeral.{no-number, number-of}
-use Rattle.script.specs.Calls.{names, calls, unknown, empty, is-name, kind-of, words-in, numbers-in, value-in, ends-before, has-words, has-value, value-on, argument, is-call, no-call, with-call, call-of}
+use Rattle.script.specs.LineCalls.{names, calls, unknown, empty, is-name, kind-of, words-in, numbers-in, value-in, ends-before, has-words, has-value, value-on, argument, is-call, no-call, with-call, call-of}
 
 -- ---- names
 

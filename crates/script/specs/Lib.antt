@@ -1,7 +1,7 @@
 pub mod Blanks
-pub mod Calls
 pub mod Fronts
 pub mod Hex
+pub mod LineCalls
 pub mod Numeral
 pub mod Pieces
 pub mod ReadBack

@@ -4,7 +4,7 @@ ghost use Prim.Native.Nat.{_≤_, _<_};
 ghost use lib.ListN.{length, take, drop};
 ghost use Rattle.script.specs.Fronts.{Front};
 ghost use Rattle.script.specs.Numeral.{no-number};
-ghost use Rattle.script.specs.Calls.{kind-of, has-words, has-value, value-on, argument, call-of, no-call};
+ghost use Rattle.script.specs.LineCalls.{kind-of, has-words, has-value, value-on, argument, call-of, no-call};
 use crate::numbers;
 use crate::values;
 use crate::words;

@@ -30,7 +30,7 @@ use Rattle.rules.proofs.Runs.Told.{stands-right}
 use Rattle.rules.proofs.Runs.OfRuns.{orders-given, conflict-met}
 use Rattle.rules.proofs.History.LocalOpacity.{permissive-kept}
 use Rattle.log_layout.specs.Walked.{layout-number}
-use Rattle.log_back.specs.Told.{entry-read}
+use Rattle.log_back.specs.Course.{entry-read}
 use Rattle.machine.specs.declared.books.Answer.{Answer}
 use Rattle.machine.specs.View.{view}
 use Rattle.machine.specs.Promises.{order-outcome, close-outcome, LeavesLog, LeavesBuffer}

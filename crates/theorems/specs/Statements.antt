@@ -22,7 +22,7 @@ use Rattle.rules.specs.Runs.{DayStarts, reads-own, holder, AnsweredBy, DayPair,
 use Rattle.rules.specs.History.{Permissive}
 use Rattle.log_layout.specs.Walked.{layout-number}
 use Rattle.log_back.specs.declared.entry.Entry.{Entry}
-use Rattle.log_back.specs.Told.{entry-read}
+use Rattle.log_back.specs.Course.{entry-read}
 use Rattle.checker.specs.Desk.{pairs-of, checked-pairs}
 use Rattle.machine.specs.declared.books.Answer.{Answer}
 use Rattle.machine.specs.View.{view}

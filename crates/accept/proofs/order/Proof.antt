@@ -1,7 +1,7 @@
 -- `accept::order` meets its contract. The loop's invariant: the numbers that are kept stand in their room. Assumes nothing.
 use Prim.Native.Nat.{_-_}
 use borrow.Author.Needs.{needs}
-use Rattle.accept.specs.Listed.{Roomy}
+use Rattle.accept.specs.Words.{Roomy}
 use Rattle.accept.proofs.order.Statement.{statement}
 use Rattle.accept.proofs.order.Tie as tie
 

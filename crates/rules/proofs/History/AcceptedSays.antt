@@ -8,7 +8,7 @@ use mathlib.Core.Bool.{true}
 use mathlib.Core.List.{List}
 use Rattle.basics.specs.Lists.{keeps}
 use Rattle.basics.proofs.Bools.{clash, false-of-not}
-use Rattle.basics.proofs.Listed.{earlier-listed, listed-apart, keeps-of, keeps-at}
+use Rattle.basics.proofs.Earlier.{earlier-listed, listed-apart, keeps-of, keeps-at}
 use Rattle.basics.proofs.Says.{and-says}
 use Rattle.rules.specs.declared.Record.{Record}
 use Rattle.rules.specs.Sizes.{Size}

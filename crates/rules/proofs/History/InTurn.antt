@@ -9,7 +9,7 @@ use lib.Dec.{eqb}
 use borrow.Author.Tests.{eq-eqb}
 use Rattle.basics.specs.Lists.{member, distinct}
 use Rattle.basics.proofs.Bools.{split, clash, equal-or-not}
-use Rattle.basics.proofs.Listed.{Earlier, listed-apart}
+use Rattle.basics.proofs.Earlier.{Earlier, listed-apart}
 use Rattle.basics.proofs.Lists.{member-nil, member-head, member-tail, member-cases, member-rest, distinct-head, distinct-tail}
 use Rattle.rules.specs.Day.{Event}
 use Rattle.rules.specs.History.{Before, Txn, Wholly, TSequential, only, Equivalent, ListsAll, in-turn}

@@ -5,7 +5,7 @@ use mathlib.Core.Path.{_≡_, sym}
 use native.Mathlib.Omega.{arith}
 use borrow.Author.Needs.{needs}
 use Rattle.basics.proofs.Below.{any-none, any-more}
-use Rattle.pairs.specs.Cells.{overlap-of, read-after-of, read-before-of}
+use Rattle.pairs.specs.CellPass.{overlap-of, read-after-of, read-before-of}
 use Rattle.pairs.proofs.pair.comes_first.Statement.{statement}
 use Rattle.pairs.proofs.pair.comes_first.Tie as tie
 

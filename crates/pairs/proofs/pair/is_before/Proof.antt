@@ -9,7 +9,7 @@ use borrow.Author.Needs.{needs}
 use Rattle.basics.proofs.Bools.{or-left, or-second}
 use Rattle.rules.specs.Books.{last-read}
 use Rattle.rules.specs.Judging.{precedes}
-use Rattle.pairs.specs.Cells.{comes-first}
+use Rattle.pairs.specs.CellPass.{comes-first}
 use Rattle.pairs.proofs.Pairs.{comes-first-says}
 use Rattle.pairs.proofs.pair.is_before.Statement.{statement}
 use Rattle.pairs.proofs.pair.is_before.Tie as tie

@@ -1,6 +1,6 @@
 -- `place::gate::lookup` looks a handle up by the rule: range, turn, then the gate. Assumes nothing.
 use mathlib.Core.Path.{_∙_, sym}
-use Rattle.place.specs.Calls.{caller}
+use Rattle.place.specs.Rows.{caller}
 use Rattle.place.proofs.Lookup.{out-looked-up, other-turn-looked-up, gate-looked-up}
 use borrow.Author.Needs.{needs}
 use Rattle.place.proofs.gate.lookup.Statement.{statement}

@@ -4,7 +4,7 @@ use borrow.Author.Needs.{needs}
 use Rattle.rules.specs.Sizes.{log-bytes}
 use Rattle.rules.specs.Numbers.{lent}
 use Rattle.rules.specs.Steps.{give-up-reasons}
-use Rattle.place.specs.Calls.{caller}
+use Rattle.place.specs.Rows.{caller}
 use Rattle.reasons.proofs.First.{is-first, is-next}
 use Rattle.reasons.proofs.Parts.{is-wrong, is-right}
 use Rattle.reasons.proofs.asked.of_give_up.Statement.{statement}

@@ -11,7 +11,7 @@ use Rattle.rules.specs.Judging.{has-cycle}
 use Rattle.rules.specs.Numbers.{lent, unsound, Reason, _if_, first-reason}
 use Rattle.rules.specs.Steps.{order-reasons}
 use Rattle.rules.proofs.Judging.GivenOrders.{cycle-by-places}
-use Rattle.place.specs.Calls.{caller}
+use Rattle.place.specs.Rows.{caller}
 use Rattle.reasons.proofs.First.{is-first, is-next, is-last, run-first, run-next}
 use Rattle.reasons.proofs.Parts.{is-wrong, is-right, handle-run, handle-numbered, handle-named}
 use Rattle.reasons.proofs.asked.of_order.Statement.{statement}

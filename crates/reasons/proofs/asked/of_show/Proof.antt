@@ -9,7 +9,7 @@ use Rattle.rules.specs.Books.{books-of}
 use Rattle.rules.specs.Handles.{reads}
 use Rattle.rules.specs.Numbers.{lent, wrong, Reason}
 use Rattle.rules.specs.Steps.{show-reasons, handle-cell-reasons}
-use Rattle.place.specs.Calls.{caller}
+use Rattle.place.specs.Rows.{caller}
 use Rattle.reasons.proofs.First.{is-first, is-next}
 use Rattle.reasons.proofs.Parts.{is-wrong, is-right}
 use Rattle.reasons.proofs.asked.of_show.Statement.{statement}

@@ -7,7 +7,7 @@ use borrow.Author.Needs.{needs}
 use Rattle.rules.specs.Books.{Books, books-of, live-count}
 use Rattle.rules.specs.Numbers.{Reason, first-reason}
 use Rattle.rules.specs.Steps.{handle-cell-reasons, room-reason}
-use Rattle.place.specs.Calls.{caller}
+use Rattle.place.specs.Rows.{caller}
 use Rattle.reasons.proofs.First.{run-first, run-next}
 use Rattle.reasons.proofs.Parts.{handle-cell-numbered, live-seen}
 use Rattle.reasons.proofs.shared.of_access.Statement.{statement}

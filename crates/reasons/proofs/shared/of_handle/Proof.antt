@@ -8,7 +8,7 @@ use Rattle.rules.specs.Books.{Books, books-of}
 use Rattle.rules.specs.Numbers.{Reason}
 use Rattle.rules.specs.Sound.{sound}
 use Rattle.rules.specs.Steps.{handle-reasons}
-use Rattle.place.specs.Calls.{caller}
+use Rattle.place.specs.Rows.{caller}
 use Rattle.reasons.proofs.Parts.{unsound-first, sound-next, status-known, handle-asked}
 use Rattle.reasons.proofs.shared.of_handle.Statement.{statement}
 use Rattle.reasons.proofs.shared.of_handle.Tie as tie

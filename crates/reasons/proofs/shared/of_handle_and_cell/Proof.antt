@@ -4,7 +4,7 @@ use borrow.Author.Needs.{needs}
 use Rattle.rules.specs.Books.{Books, books-of}
 use Rattle.rules.specs.Numbers.{Reason}
 use Rattle.rules.specs.Steps.{cell-reason, handle-cell-reasons}
-use Rattle.place.specs.Calls.{caller}
+use Rattle.place.specs.Rows.{caller}
 use Rattle.reasons.proofs.First.{run-first, run-next}
 use Rattle.reasons.proofs.Parts.{handle-run, handle-numbered}
 use Rattle.reasons.proofs.shared.of_handle_and_cell.Statement.{statement}

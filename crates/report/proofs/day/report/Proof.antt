@@ -7,7 +7,7 @@ use borrow.Author.Needs.{needs}
 use Rattle.rules.specs.Sizes.{yard}
 use Rattle.rules.proofs.Books.Shape.{size-within}
 use Rattle.texts.proofs.Putting.{tail-is}
-use Rattle.report.specs.Told.{reported}
+use Rattle.report.specs.Reported.{reported}
 use Rattle.report.proofs.Reporting.{report-short, report-whole}
 use Rattle.report.proofs.day.report.Statement.{statement}
 use Rattle.report.proofs.day.report.Tie as tie

@@ -2,7 +2,7 @@
 use borrow.Author.Needs.{needs}
 use Rattle.basics.specs.Text.{text}
 use Rattle.texts.proofs.Saying.{one-placed, then-placed}
-use Rattle.report.specs.Told.{first-told}
+use Rattle.report.specs.Reported.{first-told}
 use Rattle.report.proofs.lines.first.Statement.{statement}
 use Rattle.report.proofs.lines.first.Tie as tie
 

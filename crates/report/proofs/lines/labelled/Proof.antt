@@ -1,7 +1,7 @@
 -- `report::lines::labelled` meets its contract: the label, and the number behind it. Assumes nothing.
 use borrow.Author.Needs.{needs}
 use Rattle.texts.proofs.Saying.{one-placed, first-placed}
-use Rattle.report.specs.Told.{labelled}
+use Rattle.report.specs.Reported.{labelled}
 use Rattle.report.proofs.lines.labelled.Statement.{statement}
 use Rattle.report.proofs.lines.labelled.Tie as tie
 

@@ -2,7 +2,7 @@
 use borrow.Author.Needs.{needs}
 use Rattle.basics.specs.Text.{text}
 use Rattle.texts.proofs.Saying.{one-placed, first-placed, then-placed}
-use Rattle.report.specs.Told.{told}
+use Rattle.report.specs.Reported.{told}
 use Rattle.report.proofs.lines.line.Statement.{statement}
 use Rattle.report.proofs.lines.line.Tie as tie
 

@@ -5,7 +5,7 @@ use denote.Ref.{now}
 use borrow.Author.Needs.{needs}
 use Rattle.basics.specs.Text.{text}
 use Rattle.texts.proofs.Putting.{after-same, with-same}
-use Rattle.report.specs.Told.{word-told}
+use Rattle.report.specs.Reported.{word-told}
 use Rattle.report.proofs.lines.standing.Statement.{statement}
 use Rattle.report.proofs.lines.standing.Tie as tie
 

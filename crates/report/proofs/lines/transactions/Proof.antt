@@ -8,7 +8,7 @@ use denote.Ref.{now}
 use borrow.Author.Needs.{needs}
 use Rattle.texts.specs.Said.{placed}
 use Rattle.texts.proofs.Saying.{none-placed}
-use Rattle.report.specs.Told.{all-told}
+use Rattle.report.specs.Reported.{all-told}
 use Rattle.report.proofs.Telling.{told-more, told-skips}
 use Rattle.report.proofs.lines.transactions.Statement.{statement}
 use Rattle.report.proofs.lines.transactions.Tie as tie

@@ -2,7 +2,7 @@
 use native.Mathlib.Omega.{arith}
 use borrow.Author.Needs.{needs}
 use Rattle.script.proofs.Calling.{no-argument, an-argument}
-use Rattle.script.specs.Calls.{numbers-in}
+use Rattle.script.specs.LineCalls.{numbers-in}
 use Rattle.script.proofs.lines.argument.Statement.{statement}
 use Rattle.script.proofs.lines.argument.Tie as tie
 

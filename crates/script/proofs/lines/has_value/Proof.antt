@@ -1,7 +1,7 @@
 -- `script::lines::has_value` meets its contract: no value, or the word where it stands. Assumes nothing.
 use borrow.Author.Needs.{needs}
 use Rattle.script.proofs.Calling.{no-value, a-value}
-use Rattle.script.specs.Calls.{value-in}
+use Rattle.script.specs.LineCalls.{value-in}
 use Rattle.script.proofs.lines.has_value.Statement.{statement}
 use Rattle.script.proofs.lines.has_value.Tie as tie
 

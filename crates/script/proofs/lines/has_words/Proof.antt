@@ -1,7 +1,7 @@
 -- `script::lines::has_words` meets its contract: the last word is missing, or it is there and the last. Assumes nothing.
 use borrow.Author.Needs.{needs}
 use Rattle.script.proofs.Calling.{some-word, last-missing, last-there}
-use Rattle.script.specs.Calls.{words-in}
+use Rattle.script.specs.LineCalls.{words-in}
 use Rattle.script.proofs.lines.has_words.Statement.{statement}
 use Rattle.script.proofs.lines.has_words.Tie as tie
 

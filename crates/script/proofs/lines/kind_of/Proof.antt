@@ -9,7 +9,7 @@ use Rattle.basics.specs.Text.{text}
 use Rattle.basics.proofs.Bools.{clash}
 use Rattle.basics.proofs.Search.{least-at-most}
 use Rattle.script.proofs.Calling.{name-found, name-skipped, no-name}
-use Rattle.script.specs.Calls.{names, is-name, calls}
+use Rattle.script.specs.LineCalls.{names, is-name, calls}
 use Rattle.script.proofs.lines.kind_of.Statement.{statement}
 use Rattle.script.proofs.lines.kind_of.Tie as tie
 

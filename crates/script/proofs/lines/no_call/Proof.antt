@@ -1,6 +1,6 @@
 -- `script::lines::no_call` meets its contract. Assumes nothing.
 use mathlib.Core.Path.{refl}
-use Rattle.script.specs.Calls.{no-call}
+use Rattle.script.specs.LineCalls.{no-call}
 use Rattle.script.proofs.lines.no_call.Statement.{statement}
 use Rattle.script.proofs.lines.no_call.Tie as tie
 

@@ -6,7 +6,7 @@ use denote.Ref.{now}
 use borrow.Author.Needs.{needs}
 use Rattle.script.specs.Hex.{value-bytes}
 use Rattle.script.specs.Fronts.{at-most}
-use Rattle.script.specs.Calls.{value-in}
+use Rattle.script.specs.LineCalls.{value-in}
 use Rattle.script.proofs.HexLaws.{value-bytes-length}
 use Rattle.script.proofs.Holding.{front-taken, front-rest, at-most-taken, at-most-within}
 use Rattle.script.proofs.Calling.{nothing-on, value-there}

@@ -12,7 +12,7 @@ use Rattle.rules.specs.Day.{is-transaction}
 use Rattle.rules.specs.Checker.{log-events}
 use Rattle.rules.specs.Report.{log-report, refused-line}
 use Rattle.log_back.specs.declared.transaction.Transaction.{Transaction}
-use Rattle.log_back.specs.Told.{transaction-of}
+use Rattle.log_back.specs.Course.{transaction-of}
 
 -- how a transaction stands, by its number
 unfoldable pub word-told : ℕ → List ℕ
