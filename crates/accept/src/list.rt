@@ -3,11 +3,8 @@ ghost use mathlib.Core.Path.{_≡_};
 ghost use Prim.Native.Nat.{_≤_};
 ghost use Rattle.script.specs.Numeral.{no-number};
 ghost use Rattle.accept.specs.Words.{word-number, Roomy, none-listed, with-number};
-use rules::sizes;
+use checker::proposal::MOST_KEPT;
 use script::numbers;
-
-// More than 32 numbers are never accepted, so the first 33 tell as much as all.
-pub const MOST_KEPT: usize = sizes::ORDER_NUMBERS + 1;
 
 // The first numbers, how many they are, and whether every word so far is a number.
 pub struct Numbers {

@@ -5,6 +5,7 @@ ghost use lib.ListN.{length, take};
 ghost use Rattle.rules.specs.Sizes.{yard};
 ghost use Rattle.checker.specs.Desk.{pairs-of, checked-pairs};
 use crate::proposal;
+use crate::proposal::MOST_KEPT;
 use log_bytes::bytes;
 use rules::numbers;
 
@@ -22,7 +23,7 @@ fn unpack(pairs: &[u8], into: &mut [u16])
     }
 }
 
-// The checker's number; 1 if the list's bytes are odd. More than 32 numbers are never accepted, so the first 33 tell as much as all.
+// The checker's number; 1 if the list's bytes are odd.
 #[no_mangle]
 pub extern "C" fn nogturshan_check(opening: &[u8], log: &[u8], begin: u32, list: &[u8]) -> u8
     ensures { λ r. ⌜ r ≡ checked-pairs yard (now (opening .entry)) (now (log .entry)) begin (now (list .entry)) ⌝ }
@@ -30,9 +31,9 @@ pub extern "C" fn nogturshan_check(opening: &[u8], log: &[u8], begin: u32, list:
     if list.len() % 2 != 0 {
         return numbers::LENT;
     }
-    let mut numbers = [0u16; 33];
+    let mut numbers = [0u16; MOST_KEPT];
     let all = list.len() / 2;
-    let count = if all < 33 { all } else { 33 };
+    let count = if all < MOST_KEPT { all } else { MOST_KEPT };
     unpack(list, &mut numbers[..count]);
     proposal::checked(opening, log, begin, &numbers[..count])
 }

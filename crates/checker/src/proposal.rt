@@ -9,6 +9,9 @@ use rules::Size;
 use rules::numbers;
 use rules::sizes;
 
+// More than 32 numbers are never accepted, so the first 33 of a list tell as much as all.
+pub const MOST_KEPT: usize = sizes::ORDER_NUMBERS + 1;
+
 // The answer for any number of places and cells.
 fn sized(opening: &[u8], log: &[u8], begin: u32, list: &[u16], z: Size) -> u8
     requires { ⌜ Within z ⌝ }

@@ -3,7 +3,7 @@ use mathlib.Core.Path.{_∙_, ap}
 use Rattle.rules.specs.Daylog.{standing, day-of}
 use Rattle.rules.specs.Trials.{Trials}
 use Rattle.rules.specs.CaseA.{CaseALog}
-use Rattle.rules.specs.Statements.{SoundnessSays, LayoutSays, LogReadsBack, ResultsUnique, RefusalsChangeNothing, Conflicts, GivenOrders}
+use Rattle.rules.specs.Statements.{SoundnessSays, KindsSay, LayoutSays, LogReadsBack, ResultsUnique, RefusalsChangeNothing, Conflicts, GivenOrders}
 use Rattle.rules.specs.Runs.{DaysFollow, RunsReadBack, HandlesName, OrdersAccepted, ConflictsMet}
 use Rattle.rules.specs.History.{AcceptedSays, DaysPermissive}
 use Rattle.rules.specs.Kept.{ReasonsAsked, SoundnessKept, ShownIsRecorded, LogJoinsDay, Unlent}
@@ -16,6 +16,7 @@ use Rattle.rules.proofs.Log.Encoding
 use Rattle.rules.proofs.Runs.Holders
 use Rattle.rules.proofs.Calls.Joined
 use Rattle.rules.proofs.Judging.GivenOrders
+use Rattle.rules.proofs.Log.KindsSaid
 use Rattle.rules.proofs.Log.LaidOut
 use Rattle.rules.proofs.History.LocalOpacity
 use Rattle.rules.proofs.Runs.NewDays
@@ -37,6 +38,9 @@ case-a-log = CaseA.case-a-log
 -- tests say what the rules say
 pub soundness-says : SoundnessSays
 soundness-says = SoundnessSays.sound-says
+
+pub kinds-say : KindsSay
+kinds-say = KindsSaid.kinds-say
 
 pub layout-says : LayoutSays
 layout-says = LaidOut.layout-says

@@ -14,20 +14,29 @@ pub record Books : Type 0 where
   pub records : ℕ
   pub places : List Place
 
--- ---- a place's status: 0 free, 1 live, 2 committed
+-- ---- a place's status
+
+abbrev pub free-status : ℕ
+free-status = 0
+
+abbrev pub live-status : ℕ
+live-status = 1
+
+abbrev pub committed-status : ℕ
+committed-status = 2
 
 abbrev pub is-free : Place → Bool
-is-free p = eqb (p .status) 0
+is-free p = eqb (p .status) free-status
 
 abbrev pub is-live : Place → Bool
-is-live p = eqb (p .status) 1
+is-live p = eqb (p .status) live-status
 
 abbrev pub is-committed : Place → Bool
-is-committed p = eqb (p .status) 2
+is-committed p = eqb (p .status) committed-status
 
 -- a held place is live or committed
 abbrev pub held-status : ℕ → Bool
-held-status status = eqb status 1 || eqb status 2
+held-status status = eqb status live-status || eqb status committed-status
 
 abbrev pub is-held : Place → Bool
 is-held p = held-status (p .status)
@@ -61,7 +70,7 @@ next-turn t = (t + 1) % turns
 
 -- a free place with that turn: zero in all else
 abbrev pub blank : ℕ → Place
-blank turn = record { turn = turn; status = 0; begin = 0; commit = 0; written = no-cells; first = no-reads; last = no-reads }
+blank turn = record { turn = turn; status = free-status; begin = 0; commit = 0; written = no-cells; first = no-reads; last = no-reads }
 
 -- freed: zero in all but the turn
 unfoldable pub freed : Place → Place
@@ -69,11 +78,11 @@ freed p = blank (p .turn)
 
 -- begun at record n: live, the turn one up
 unfoldable pub begun : Place → ℕ → Place
-begun p n = record { turn = next-turn (p .turn); status = 1; begin = n; commit = 0; written = no-cells; first = no-reads; last = no-reads }
+begun p n = record { turn = next-turn (p .turn); status = live-status; begin = n; commit = 0; written = no-cells; first = no-reads; last = no-reads }
 
 -- begin, write of the cell and commit in one record, n
 unfoldable pub posted : Place → ℕ → ℕ → Place
-posted p c n = record { turn = next-turn (p .turn); status = 2; begin = n; commit = n; written = set no-cells c true; first = no-reads; last = no-reads }
+posted p c n = record { turn = next-turn (p .turn); status = committed-status; begin = n; commit = n; written = set no-cells c true; first = no-reads; last = no-reads }
 
 -- the cell marked written
 unfoldable pub marked : Place → ℕ → Place
@@ -89,7 +98,7 @@ read-marked p c n = record { turn = p .turn; status = p .status; begin = p .begi
 
 -- committed at record n
 unfoldable pub sealed : Place → ℕ → Place
-sealed p n = record { turn = p .turn; status = 2; begin = p .begin; commit = n; written = p .written; first = p .first; last = p .last }
+sealed p n = record { turn = p .turn; status = committed-status; begin = p .begin; commit = n; written = p .written; first = p .first; last = p .last }
 
 -- ---- the books as a whole
 

@@ -7,7 +7,7 @@ use lib.ListN.{length}
 use Rattle.rules.specs.Sizes.{Size}
 use Rattle.rules.specs.Books.{Books, wrote}
 use Rattle.rules.specs.Handles.{place-of, named-place}
-use Rattle.rules.specs.Numbers.{Reason, granted}
+use Rattle.rules.specs.Numbers.{Reason}
 use Rattle.rules.specs.State.{State, Outcome}
 use Rattle.rules.specs.Judged.{Judged}
 use Rattle.rules.specs.Steps.{begin-reasons, write-reasons, read-reasons, show-reasons, commit-reasons, give-up-reasons, post-reasons, order-reasons, close-reasons, judged-read, judged-commit, open-rule, begin-rule, write-rule, read-rule, show-rule, commit-rule, give-up-rule, post-rule, order-rule, close-rule}
@@ -57,19 +57,6 @@ reasons-of z l (GiveUp h) s = give-up-reasons z (l .log) (s .books) h
 reasons-of z l (Post c value) s = post-reasons z (length value) (length (s .table)) (l .log) (s .books) c
 reasons-of z l (Order h) s = order-reasons z (l .buffer) (s .books) h
 reasons-of z l Close s = close-reasons z (l .log) (s .books)
-
--- the number that a call hands on: a show that of its read
-abbrev pub handed-on : Call → ℕ
-handed-on Open = granted
-handed-on Begin = granted
-handed-on (Write h c value) = granted
-handed-on (Read h c) = granted
-handed-on (Show given h c) = given
-handed-on (Commit h) = granted
-handed-on (GiveUp h) = granted
-handed-on (Post c value) = granted
-handed-on (Order h) = granted
-handed-on Close = granted
 
 -- the transaction of the handle has written the cell, by the books
 abbrev pub owns : Books → ℕ → ℕ → Bool

@@ -5,7 +5,7 @@ use lib.Dec.{leb, eqb}
 use Rattle.rules.specs.declared.Place.{Place}
 use Rattle.rules.specs.Sizes.{Size, handles, handles-a-turn}
 use Rattle.rules.specs.Numbers.{granted, stale, ended}
-use Rattle.rules.specs.Books.{Books, place-at, is-free, is-committed, is-held}
+use Rattle.rules.specs.Books.{free-status, live-status, Books, place-at, is-free, is-committed, is-held}
 
 -- a handle is place + 32 × turn
 abbrev pub handle-of : ℕ → ℕ → ℕ
@@ -59,7 +59,7 @@ is-ended z who b h = asks-live who && (not (out-of-range z h) && (turn-agrees b 
 
 -- free, always 3; live, goes on; committed, 4 for read, write, commit and give up, while order goes on
 unfoldable pub gate : Caller → ℕ → ℕ
-gate who status = cond (eqb status 0) stale (cond (eqb status 1) granted (cond (asks-live who) ended granted))
+gate who status = cond (eqb status free-status) stale (cond (eqb status live-status) granted (cond (asks-live who) ended granted))
 
 -- 3, 4 or 0: what a call on a handle meets at the place that the handle names
 unfoldable pub looked-up : Size → Caller → Place → ℕ → ℕ

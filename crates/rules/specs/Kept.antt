@@ -7,7 +7,7 @@ use lib.ListN.{length}
 use Rattle.basics.specs.Bytes.{part}
 use Rattle.rules.specs.declared.Record.{Record}
 use Rattle.rules.specs.Sizes.{Size, Within, cell-bytes, table-bytes, drafts-bytes, log-bytes, record-bytes, order-numbers, most-records, handles}
-use Rattle.rules.specs.Books.{Books, Shaped, place-at, is-live, is-held, lowest-free, room-taken}
+use Rattle.rules.specs.Books.{live-status, Books, Shaped, place-at, is-live, is-held, lowest-free, room-taken}
 use Rattle.rules.specs.Handles.{place-of, turn-of, good-handle, is-stale}
 use Rattle.rules.specs.Sound.{sound, Sound}
 use Rattle.rules.specs.Judging.{has-cycle}
@@ -33,7 +33,7 @@ pub record LiveCaller (z : Size) (b : Books) (h : ℕ) : Type 0 where
   pub books : Sound z b
   pub below : h < handles
   pub place : place-of h < z .places
-  pub live : place-at b (place-of h) .status ≡ 1
+  pub live : place-at b (place-of h) .status ≡ live-status
   pub turn : place-at b (place-of h) .turn ≡ turn-of h
 
 pub record BeginAsked (z : Size) (log-length : ℕ) (b : Books) : Type 0 where

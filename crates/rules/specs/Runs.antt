@@ -4,7 +4,7 @@
 use Prim.Native.Nat.{ℕ, _+_}
 use mathlib.Core.Path.{_≡_}
 use mathlib.Core.Logic.{_↔_, _⊎_}
-use mathlib.Core.Bool.{Bool, true, cond}
+use mathlib.Core.Bool.{Bool, true, false, cond}
 use mathlib.Core.List.{List, [], _∷_, _++_, List·Memᴰ}
 use lib.ListN.{length, take}
 use lib.Dec.{eqb}
@@ -16,11 +16,11 @@ use Rattle.rules.specs.Sizes.{Size, Within, table-bytes, drafts-bytes, o
 use Rattle.rules.specs.Books.{Books, Shaped, opened, closed}
 use Rattle.rules.specs.Handles.{handle-of, place-of, turn-of, good-handle}
 use Rattle.rules.specs.Numbers.{granted, conflict, no-order}
+use Rattle.rules.specs.Cells.{cell-of}
 use Rattle.rules.specs.Kinds.{begin-kind, judged-read-kind, own-read-kind, write-kind, commit-kind, give-up-kind, read-conflict-kind, commit-conflict-kind, post-kind, kind-starts}
 use Rattle.rules.specs.Daylog.{no-value, filled, day-bytes, standing, records-in, day-of}
 use Rattle.rules.specs.State.{Outcome, entry-bytes, shown-bytes, buffer-after}
-use Rattle.rules.specs.Judged.{Judged}
-use Rattle.rules.specs.Calls.{Call, Open, Begin, Write, Read, Show, Commit, GiveUp, Post, Order, Close, IsJudged}
+use Rattle.rules.specs.Calls.{Call, Open, Begin, Write, Read, Show, Commit, GiveUp, Post, Order, Close}
 use Rattle.rules.specs.Run.{Machine, outcome, new-day, after-call, played, fresh}
 use Rattle.rules.specs.Layout.{seat, well-laid-out}
 use Rattle.rules.specs.Day.{Event, events, company-of, day-before}
@@ -191,9 +191,12 @@ OrdersAccepted = AfterRuns GivesOrders
 abbrev pub DayPair : Size → List Event → ℕ → ℕ → ℕ → Type 0
 DayPair z es t k m = (company-of es t k ≡ true) × (company-of es t m ≡ true) × (day-before z es k m ≡ true)
 
--- the record that a judged call of a handle adds, were it granted
-abbrev pub record-granted : ℕ → Judged → Record
-record-granted h j = record-of (j .kind) h (j .cell) (j .value)
+-- the judged calls, by a day and a table: the handle that each is of, and the record that it adds, were it granted
+pub data WouldAdd (day : List Record) (table : List ℕ) : Call → ℕ → Record → Type 0 where
+  -- a read of a cell that the transaction has not written: kind 2, with the value that the table has
+  adds-read : (h c : ℕ) → reads-own day h c ≡ false → WouldAdd day table (Read h c) h (record-of judged-read-kind h c (cell-of table c))
+  -- a commit: kind 5
+  adds-commit : (h : ℕ) → WouldAdd day table (Commit h) h (record-of commit-kind h 0 no-value)
 
 -- a call that gives back this number meets none of 1 to 8
 abbrev pub MeetsNone : ℕ → Type 0
@@ -209,8 +212,8 @@ pub record ConflictExactly (z : Size) (m : Machine) (h : ℕ) (r : Record) (o : 
 -- so it is with every judged call that meets none of 1 to 8; which cells a transaction has written is told by the log
 abbrev pub MeetsConflict : Size → Machine → Type 0
 MeetsConflict z m =
-    (c : Call) (h : ℕ) (j : Judged) → IsJudged z (reads-own (m .day)) (m .state) c h j → let o = outcome z c m in
-    MeetsNone (o .number) → ConflictExactly z m h (record-granted h j) o
+    (c : Call) (h : ℕ) (r : Record) → WouldAdd (m .day) (m .state .table) c h r → let o = outcome z c m in
+    MeetsNone (o .number) → ConflictExactly z m h r o
 
 abbrev pub ConflictsMet : Type 0
 ConflictsMet = AfterRuns MeetsConflict

@@ -3,7 +3,7 @@ use mathlib.Core.Path.{_≡_}
 use mathlib.Core.Logic.{_↔_, _≢_, _⊎_}
 use Prim.Native.Nat.{ℕ, _≤_, _<_}
 use mathlib.Core.Bool.{true}
-use mathlib.Core.List.{List, []}
+use mathlib.Core.List.{List, [], _∷_}
 use lib.ListN.{length}
 use Rattle.basics.specs.Bytes.{AreBytes}
 use Rattle.basics.specs.Lists.{member, distinct, keeps}
@@ -15,11 +15,12 @@ use Rattle.rules.specs.Handles.{place-of}
 use Rattle.rules.specs.Sound.{sound, Sound}
 use Rattle.rules.specs.Judging.{stands-before, company, has-cycle, HasCycle, given-places}
 use Rattle.rules.specs.Numbers.{granted, conflict, first-reason}
+use Rattle.rules.specs.Kinds.{kind-known, kind-begins, kind-posts, kind-starts, kind-commits, kind-writes, kind-gives-up, kind-conflict, kind-frees, kind-judged-read, kind-own-read, kind-table-read, kind-judged, granted-kind, kind-moves-moment, kind-sets-moment, kind-has-value, kind-has-cell}
 use Rattle.rules.specs.Daylog.{Proper, AllProper, no-value, encode, decode, standing, records-in, day-of}
 use Rattle.rules.specs.State.{State, Outcome, nothing, adds, empty, record-at}
 use Rattle.rules.specs.Layout.{walks, well-laid-out, WellLaidOut}
 use Rattle.rules.specs.Judged.{Judged, books-granted}
-use Rattle.rules.specs.Calls.{Call, Show, Order, Lending, issued, reasons-of, handed-on, owns, IsJudged}
+use Rattle.rules.specs.Calls.{Call, Show, Order, Lending, issued, reasons-of, owns, IsJudged}
 use Rattle.rules.specs.Run.{Machine, after-call}
 
 -- the test of soundness says what the clauses say
@@ -29,6 +30,35 @@ SoundnessSays = (z : Size) (b : Books) → (sound z b ≡ true) ↔ Sound z b
 -- the walk over a log says what the layout rules say
 abbrev pub LayoutSays : Type 0
 LayoutSays = (z : Size) (log : List ℕ) → (well-laid-out z log ≡ true) ↔ WellLaidOut z log
+
+-- what document 01 says of the kinds, by their numbers
+pub record KindsSay : Type 0 where
+  -- 1 begin, 2 judged read, 3 own read, 4 write, 5 commit, 6 give up, 7 Conflict at a read, 8 Conflict at commit, 9 post
+  pub known : (k : ℕ) → (kind-known k ≡ true) ↔ ((1 ≤ k) × (k ≤ 9))
+  pub begins : (k : ℕ) → kind-begins k ≡ member k (1 ∷ [])
+  pub judged-read : (k : ℕ) → kind-judged-read k ≡ member k (2 ∷ [])
+  pub own-read : (k : ℕ) → kind-own-read k ≡ member k (3 ∷ [])
+  pub gives-up : (k : ℕ) → kind-gives-up k ≡ member k (6 ∷ [])
+  pub conflict : (k : ℕ) → kind-conflict k ≡ member k (7 ∷ 8 ∷ [])
+  pub posts : (k : ℕ) → kind-posts k ≡ member k (9 ∷ [])
+  -- begin and post start a transaction, commit and post commit it, write and post write a cell
+  pub starts : (k : ℕ) → kind-starts k ≡ member k (1 ∷ 9 ∷ [])
+  pub commits : (k : ℕ) → kind-commits k ≡ member k (5 ∷ 9 ∷ [])
+  pub writes : (k : ℕ) → kind-writes k ≡ member k (4 ∷ 9 ∷ [])
+  -- kinds 6, 7, 8 free the place
+  pub frees : (k : ℕ) → kind-frees k ≡ member k (6 ∷ 7 ∷ 8 ∷ [])
+  -- kinds 2 and 7 name a cell that the transaction has not written
+  pub table-read : (k : ℕ) → kind-table-read k ≡ member k (2 ∷ 7 ∷ [])
+  -- reads that are granted and commits are judged; a Conflict at a read would have been a judged read, one at commit a commit
+  pub judged : (k : ℕ) → kind-judged k ≡ member k (2 ∷ 5 ∷ [])
+  pub read-granted : granted-kind 7 ≡ 2
+  pub commit-granted : granted-kind 8 ≡ 5
+  -- a judged read moves the moment; it is set by that, by begin, by commit and by post
+  pub moves-moment : (k : ℕ) → kind-moves-moment k ≡ member k (2 ∷ [])
+  pub sets-moment : (k : ℕ) → kind-sets-moment k ≡ member k (1 ∷ 2 ∷ 5 ∷ 9 ∷ [])
+  -- cell is used in 2, 3, 4, 7, 9, value in 2, 3, 4, 9
+  pub has-cell : (k : ℕ) → kind-has-cell k ≡ member k (2 ∷ 3 ∷ 4 ∷ 7 ∷ 9 ∷ [])
+  pub has-value : (k : ℕ) → kind-has-value k ≡ member k (2 ∷ 3 ∷ 4 ∷ 9 ∷ [])
 
 -- records, days and logs read back
 pub record LogReadsBack : Type 0 where
@@ -86,7 +116,7 @@ pub record JudgedConflict (z : Size) (l : Lending) (s : State) (c : Call) (h : �
 pub record Conflicts : Type 0 where
   pub at-judged : (z : Size) (l : Lending) (s : State) (c : Call) (h : ℕ) (j : Judged) → IsJudged z (owns (s .books)) s c h j → JudgedConflict z l s c h j
   pub at-no-other : (z : Size) (l : Lending) (s : State) (c : Call) → issued z l c s .number ≡ conflict
-      → ((h : ℕ) × (j : Judged) × IsJudged z (owns (s .books)) s c h j) ⊎ (handed-on c ≡ conflict)
+      → ((h : ℕ) × (j : Judged) × IsJudged z (owns (s .books)) s c h j) ⊎ ((h cell : ℕ) × (c ≡ Show conflict h cell))
 
 -- the list takes, again and again, among those of the company with nobody left before them, the one with the lowest begin record
 abbrev pub TakesLowestBegin : Size → Books → ℕ → List ℕ → Type 0

@@ -9,17 +9,16 @@ use lib.ListN.{length}
 use native.Mathlib.Omega.{arith}
 use Rattle.basics.specs.Bytes.{AreBytes}
 use Rattle.basics.proofs.Bytes.{splice-length}
-use Rattle.rules.specs.declared.Size.{Size}
+use Rattle.rules.specs.declared.Record.{Record}
 use Rattle.rules.specs.Sizes.{yard, order-numbers}
 use Rattle.rules.specs.Numbers.{granted}
 use Rattle.rules.specs.Daylog.{commits-in}
-use Rattle.rules.specs.State.{State, Outcome, state-of, log-after, buffer-after}
-use Rattle.rules.specs.Calls.{Call, Open, Begin, Write, Read, Show, Commit, GiveUp, Post, Order, Close, issued, IsJudged, read-judged, commit-judged}
-use Rattle.rules.specs.Judged.{Judged}
+use Rattle.rules.specs.State.{Outcome, state-of, log-after, buffer-after}
+use Rattle.rules.specs.Calls.{Call, Open, Begin, Write, Read, Show, Commit, GiveUp, Post, Order, Close, issued}
 use Rattle.rules.specs.Steps.{open-rule}
 use Rattle.rules.specs.Run.{Machine, lends, outcome, new-day, after-call}
 use Rattle.rules.specs.Kept.{Joined}
-use Rattle.rules.specs.Runs.{value-taken, told, told-call, shown-behind, shown-on}
+use Rattle.rules.specs.Runs.{value-taken, told, told-call, shown-behind, shown-on, WouldAdd, adds-read, adds-commit}
 use Rattle.rules.proofs.Books.Shape.{yard-within}
 use Rattle.rules.proofs.Calls.Joined.{log-joins-day}
 use Rattle.rules.proofs.Runs.Running.{Kept, kept-new, kept-after}
@@ -60,9 +59,9 @@ is-show (Order h) = false
 is-show Close = false
 
 -- a judged call is none
-pub judged-no-show : {z : Size} {own : ℕ → ℕ → Bool} {s : State} {c : Call} {h : ℕ} {j : Judged} → IsJudged z own s c h j → is-show c ≡ false
-judged-no-show (read-judged h c other) = refl
-judged-no-show (commit-judged h) = refl
+pub adds-no-show : {day : List Record} {table : List ℕ} {c : Call} {h : ℕ} {r : Record} → WouldAdd day table c h r → is-show c ≡ false
+adds-no-show (adds-read h c other) = refl
+adds-no-show (adds-commit h) = refl
 
 -- what a caller is shown is what the rules show behind the call
 shown-same : (c : Call) (number : ℕ) (k : Held) (shown : List ℕ) (m : Machine) → m .state ≡ state-of (view (k .books)) (k .table) (k .drafts)

@@ -22,6 +22,7 @@ use Rattle.rules.specs.Run.{Machine, outcome, after-call}
 use Rattle.rules.specs.Checker.{checked}
 use Rattle.rules.specs.Runs.{DayStarts, holder, ConflictExactly as RuleExactly}
 use Rattle.rules.proofs.Books.Shape.{yard-within}
+use Rattle.rules.proofs.Books.SoundnessSays.{sound-says}
 use Rattle.rules.proofs.Calls.Joined.{log-joins-day}
 use Rattle.rules.proofs.Log.StandingLog.{length-day-of, records-in-standing}
 use Rattle.rules.proofs.Runs.Holders.{handle-names}
@@ -38,7 +39,7 @@ use Rattle.checker.specs.Desk.{checked-pairs}
 use Rattle.theorems.specs.Calling.{as-it-stands, with-log, close-called, Known, Lends}
 use Rattle.theorems.specs.Statements.{ReadsBack, GivesOrders, ConflictExactly, MeetsConflict, OfEveryRun}
 use Rattle.theorems.proofs.AfterCall.{moved-state}
-use Rattle.theorems.proofs.Following.{machine-known, Follows, called-then, answer-left, log-left, numbers-left, order-all, close-all, judged-no-show, called-number, run-follows}
+use Rattle.theorems.proofs.Following.{machine-known, Follows, called-then, answer-left, log-left, numbers-left, order-all, close-all, adds-no-show, called-number, run-follows}
 
 -- a record of the day that a log's bytes hold is the one in its 16 bytes
 record-back : (log : List ℕ) (n : ℕ) (newer earlier : List Record) (e : Record) → day-of log n ≡ newer ++ (e ∷ earlier) → decode (bytes-at log (length earlier)) ≡ e
@@ -165,15 +166,16 @@ module _ (k : Known) (follows : Follows k) where
       }
 
   meets-conflict : MeetsConflict k
-  meets-conflict c h j judged number answer after called meets =
-      let told = called-number k follows called (judged-no-show judged) in
-      exactly h _ _ number told (conflict-met yard m yard-within (follows .kept) c h j judged (rw told at meets))
+  meets-conflict c h r adds number answer after called meets =
+      let told = called-number k follows called (adds-no-show adds) in
+      exactly h _ _ number told (conflict-met yard m yard-within (follows .kept) c h r adds (rw told at meets))
 
 pub of-every-run : OfEveryRun
 of-every-run =
     record {
       closes = λ k run. close-starts-again k (run-follows run);
       reads-back = λ k run. reads-back k (run-follows run);
+      books-sound = λ k run. sound-says yard _ .1 (run-follows run .kept .mirror .sound);
       handles = λ k run. handle-names yard (machine-known k) (run-follows run .kept .mirror);
       orders = λ k run. gives-orders k (run-follows run);
       conflicts = λ k run. meets-conflict k (run-follows run);

@@ -11,14 +11,13 @@ use Rattle.basics.specs.Walk.{Cycle}
 use Rattle.rules.specs.declared.Record.{Record}
 use Rattle.rules.specs.Sizes.{yard, record-bytes}
 use Rattle.rules.specs.Handles.{good-handle}
+use Rattle.rules.specs.Sound.{sound}
 use Rattle.rules.specs.Numbers.{granted, conflict, no-order}
 use Rattle.rules.specs.Daylog.{standing, records-in, day-of}
-use Rattle.rules.specs.State.{state-of}
-use Rattle.rules.specs.Judged.{Judged}
-use Rattle.rules.specs.Calls.{Call, IsJudged}
+use Rattle.rules.specs.Calls.{Call}
 use Rattle.rules.specs.Day.{events}
 use Rattle.rules.specs.Checker.{checked}
-use Rattle.rules.specs.Runs.{DayStarts, reads-own, holder, AnsweredBy, DayPair, record-granted, MeetsNone}
+use Rattle.rules.specs.Runs.{DayStarts, holder, AnsweredBy, DayPair, WouldAdd, MeetsNone}
 use Rattle.rules.specs.History.{Permissive}
 use Rattle.log_layout.specs.Walked.{layout-number}
 use Rattle.log_back.specs.declared.entry.Entry.{Entry}
@@ -55,7 +54,7 @@ pub record GivesOrders (k : Known) : Type 0 where
       → LeavesBuffer (k .held .numbers) (order-outcome (k .held .books) h (k .held .numbers)) r numbers → r .number ≡ granted → length bytes % 2 ≡ 0
       → pairs-of bytes ≡ take (r .answer) numbers → (x : ℕ) → x ≡ checked-pairs yard (k .opening) (as-it-stands (k .held)) (holder (k .day) h) bytes
       → x ≡ granted
-  -- and one is given for every handle that is not stale
+  -- and one is given for every good handle
   pub given : (h : ℕ) (r : Answer) (numbers : List ℕ) → LeavesBuffer (k .held .numbers) (order-outcome (k .held .books) h (k .held .numbers)) r numbers
       → good-handle yard (view (k .held .books)) h ≡ true → r .number ≡ granted
 
@@ -75,8 +74,8 @@ pub record ConflictExactly (k : Known) (h : ℕ) (r : Record) (number : ℕ) : T
 -- so it is with every judged call that meets none of 1 to 8; which cells a transaction has written is told by what the caller saw of the day
 abbrev pub MeetsConflict : Known → Type 0
 MeetsConflict k =
-    (c : Call) (h : ℕ) (j : Judged) → IsJudged yard (reads-own (k .day)) (state-of (view (k .held .books)) (k .held .table) (k .held .drafts)) c h j
-    → (number answer : ℕ) (after : Held) → Called (k .held) c number answer after → MeetsNone number → ConflictExactly k h (record-granted h j) number
+    (c : Call) (h : ℕ) (r : Record) → WouldAdd (k .day) (k .held .table) c h r
+    → (number answer : ℕ) (after : Held) → Called (k .held) c number answer after → MeetsNone number → ConflictExactly k h r number
 
 -- ---- of every run
 
@@ -86,7 +85,9 @@ pub record OfEveryRun : Type 0 where
       → LeavesLog (k .held .books .records) (k .held .log) (close-outcome (k .held .books) (k .held .log)) r log → r .number ≡ granted
       → DayStarts (view (r .books)) × Lends (with-log (k .held) (r .books) log)
   pub reads-back : (k : Known) → Run k → ReadsBack k
-  -- a handle that is not stale names the transaction of the begin or post that answered it
+  -- the books are sound, so a handle is good exactly if it is not stale
+  pub books-sound : (k : Known) → Run k → sound yard (view (k .held .books)) ≡ true
+  -- a good handle names the transaction of the begin or post that answered it
   pub handles : (k : Known) → Run k → (h : ℕ) → good-handle yard (view (k .held .books)) h ≡ true → AnsweredBy (k .day) h
   pub orders : (k : Known) → Run k → GivesOrders k
   pub conflicts : (k : Known) → Run k → MeetsConflict k

@@ -13,9 +13,9 @@ use Rattle.rules.specs.Numbers.{granted, conflict, Reason, first-reason}
 use Rattle.rules.specs.State.{State, Outcome, refused, unless-refused, recorded}
 use Rattle.rules.specs.Judged.{Judged, books-granted, granted-of, turned-back, meets-conflict, judged-of}
 use Rattle.rules.specs.Steps.{open-rule, begin-of, write-of, own-read-of, show-of, give-up-of, post-of, order-of, close-of, read-rule, read-of, commit-rule}
-use Rattle.rules.specs.Calls.{Call, Lending, issued, reasons-of, handed-on, owns, IsJudged, read-judged, commit-judged}
+use Rattle.rules.specs.Calls.{Call, Open, Begin, Write, Read, Show, Commit, GiveUp, Post, Order, Close, Lending, issued, reasons-of, owns, IsJudged, read-judged, commit-judged}
 use Rattle.rules.specs.Statements.{TurnsBack, JudgedConflict, Conflicts}
-use Rattle.rules.proofs.Calls.EachCall.{never-nine, no-nine, EachOutcome, each-call}
+use Rattle.rules.proofs.Calls.EachCall.{handed-on, never-nine, no-nine, EachOutcome, each-call}
 use Rattle.rules.proofs.Judging.GivenOrders.{given-orders}
 use Rattle.rules.proofs.Calls.Reasons.{refused-or-not}
 
@@ -92,16 +92,32 @@ module _ (z : Size) (l : Lending) (s : State) (c : Call) (h : ℕ) (j : Judged) 
 
 -- ---- the other calls
 
+-- a show that is given the number of Conflict is the one call that hands it on
+abbrev Hands : Call → Type 0
+Hands c = (h cell : ℕ) × (c ≡ Show conflict h cell)
+
+hands : (c : Call) → handed-on c ≡ conflict → Hands c
+hands Open e = absurd (never-nine e)
+hands Begin e = absurd (never-nine e)
+hands (Write h c value) e = absurd (never-nine e)
+hands (Read h c) e = absurd (never-nine e)
+hands (Show given h c) e = (h, c, ap (λ (n : ℕ). Show n h c) e)
+hands (Commit h) e = absurd (never-nine e)
+hands (GiveUp h) e = absurd (never-nine e)
+hands (Post c value) e = absurd (never-nine e)
+hands (Order h) e = absurd (never-nine e)
+hands Close e = absurd (never-nine e)
+
 module _ (z : Size) (l : Lending) (s : State) where
-  -- a call that answers Conflict is judged, or hands the number on
+  -- a call that answers Conflict is judged, or is a show that hands the number on
   abbrev Judges : Call → Type 0
-  Judges c = ((h : ℕ) × (j : Judged) × IsJudged z (owns (s .books)) s c h j) ⊎ (handed-on c ≡ conflict)
+  Judges c = ((h : ℕ) × (j : Judged) × IsJudged z (owns (s .books)) s c h j) ⊎ Hands c
 
   no-other : EachOutcome z l s (λ c o. o .number ≡ conflict → Judges c)
   unfolding refused open-rule begin-of write-of own-read-of show-of give-up-of post-of order-of close-of recorded
   no-other =
       record {
-        on-refused = λ c n k other e. equal-or-not (handed-on c) conflict inr (λ q. absurd (other q e));
+        on-refused = λ c n k other e. equal-or-not (handed-on c) conflict (λ q. inr (hands c q)) (λ q. absurd (other q e));
         on-open = λ e. absurd (never-nine e);
         on-begin = λ asked e. absurd (never-nine e);
         on-write = λ h c value asked e. absurd (never-nine e);

@@ -17,10 +17,25 @@ use Rattle.rules.specs.Numbers.{granted, conflict, Reason, first-reason}
 use Rattle.rules.specs.State.{State, Outcome, refused, unless-refused}
 use Rattle.rules.specs.Judged.{Judged, books-granted, granted-of, turned-back, meets-conflict, judged-of}
 use Rattle.rules.specs.Steps.{soundness-reason, handle-reasons, cell-reason, handle-cell-reasons, room-reason, begin-reasons, write-reasons, read-reasons, show-reasons, commit-reasons, give-up-reasons, post-reasons, order-reasons, close-reasons, own-read-of, open-rule, begin-rule, write-rule, read-rule, show-rule, commit-rule, give-up-rule, post-rule, order-rule, close-rule, begin-of, write-of, read-of, show-of, give-up-of, post-of, order-of, close-of}
-use Rattle.rules.specs.Calls.{Call, Open, Begin, Write, Read, Show, Commit, GiveUp, Post, Order, Close, Lending, issued, reasons-of, handed-on, owns, IsJudged, read-judged, commit-judged}
+use Rattle.rules.specs.Calls.{Call, Open, Begin, Write, Read, Show, Commit, GiveUp, Post, Order, Close, Lending, issued, reasons-of, owns, IsJudged, read-judged, commit-judged}
 use Rattle.rules.specs.Kept.{BeginAsked, WriteAsked, ReadAsked, ShowAsked, CommitAsked, GiveUpAsked, PostAsked, OrderAsked, CloseAsked}
 use Rattle.rules.proofs.Calls.Asked.{begin-asked, write-asked, read-asked, show-asked, commit-asked, give-up-asked, post-asked, order-asked, close-asked}
 use Rattle.rules.proofs.Calls.Reasons.{first-among, refused-or-not}
+
+-- ---- what a call hands on
+
+-- the number that a call hands on: a show that of its read
+abbrev pub handed-on : Call → ℕ
+handed-on Open = granted
+handed-on Begin = granted
+handed-on (Write h c value) = granted
+handed-on (Read h c) = granted
+handed-on (Show given h c) = given
+handed-on (Commit h) = granted
+handed-on (GiveUp h) = granted
+handed-on (Post c value) = granted
+handed-on (Order h) = granted
+handed-on Close = granted
 
 -- ---- one rule
 

@@ -19,14 +19,14 @@ use Rattle.rules.specs.Handles.{place-of, good-handle}
 use Rattle.rules.specs.Judging.{HasCycle, has-cycle, given-order}
 use Rattle.rules.specs.Numbers.{granted, conflict, no-order, first-reason}
 use Rattle.rules.specs.State.{Outcome, buffer-after, recorded, refused, unless-refused}
-use Rattle.rules.specs.Calls.{Order, issued}
-use Rattle.rules.specs.Judged.{granted-of}
-use Rattle.rules.specs.Steps.{soundness-reason, order-reasons, order-of, order-rule}
+use Rattle.rules.specs.Calls.{Call, Read, Commit, Order, issued, IsJudged, read-judged, commit-judged}
+use Rattle.rules.specs.Judged.{Judged, granted-of}
+use Rattle.rules.specs.Steps.{soundness-reason, order-reasons, order-of, order-rule, judged-read, judged-commit}
 use Rattle.rules.specs.Kept.{LiveCaller}
 use Rattle.rules.specs.Run.{Machine, lends, outcome, new-day, moved-on, after-call}
 use Rattle.rules.specs.Day.{events, is-transaction}
 use Rattle.rules.specs.Checker.{accepted, log-events, checked}
-use Rattle.rules.specs.Runs.{ran, told-run, RunsReadBack, holder, checked-on, GivesOrders, OrdersAccepted, DayPair, record-granted, MeetsNone, ConflictExactly, MeetsConflict, ConflictsMet}
+use Rattle.rules.specs.Runs.{ran, told-run, RunsReadBack, holder, checked-on, GivesOrders, OrdersAccepted, DayPair, record-of, reads-own, WouldAdd, adds-read, adds-commit, MeetsNone, ConflictExactly, MeetsConflict, ConflictsMet}
 use Rattle.rules.proofs.Calls.Asked.{held-asked, order-goes-on, order-asked}
 use Rattle.rules.proofs.Calls.EachCall.{refused-or}
 use Rattle.rules.proofs.Judging.Explaining.{accepted-of, cycle-no-list}
@@ -184,19 +184,28 @@ module _ (z : Size) (m : Machine) (w : Within z) (kept : Kept z m) where
   caller-is : (h : ℕ) → LiveCaller z (m .state .books) h → holder (m .day) h ≡ place-at (m .state .books) (place-of h) .begin
   caller-is h caller = holder-is z m (kept .mirror) h (caller .place) (ap held-status (caller .live))
 
-  pub conflict-met : MeetsConflict z m
+  weighed-met : (c : Call) (h : ℕ) (j : Judged) → IsJudged z (reads-own (m .day)) (m .state) c h j → let o = outcome z c m in
+      MeetsNone (o .number) → ConflictExactly z m h (record-of (j .kind) h (j .cell) (j .value)) o
   unfolding after-call moved-on granted-of recorded
-  conflict-met c h j told meets =
+  weighed-met c h j told meets =
       let mirror = kept .mirror in
       let l = lends z m in
       let judged = judged-told z m mirror told meets in
       let asked = judged-met z m judged meets in
       let step = judged-step z l (m .state) judged asked in
       let caller = step .caller in
-      exactly h (record-granted h j) _ (after-call m (granted-of (m .state) (place-of h) j))
+      exactly h (record-of (j .kind) h (j .cell) (j .value)) _ (after-call m (granted-of (m .state) (place-of h) j))
       (ap (λ r. r ∷ m .day) (sym (record-of-live z (m .state .books) h caller (j .kind) (j .cell) (j .value)))) refl
       (mirrored-judged z l m w mirror judged asked (j .value) (step .value-right)) (valued-judged z l m w mirror (kept .valued) judged asked) (caller .place)
       (held-then z m mirror step) (caller-is h caller ∙ sym (begin-then z m mirror step)) meets (judged-verdict z m judged meets)
+
+  -- what is weighed of each judged call is the record that it would add
+  added-met : {c : Call} {h : ℕ} {r : Record} → WouldAdd (m .day) (m .state .table) c h r → MeetsNone (outcome z c m .number) → ConflictExactly z m h r (outcome z c m)
+  added-met (adds-read h c other) = weighed-met (Read h c) h (judged-read z (m .state) (place-of h) c) (read-judged h c other)
+  added-met (adds-commit h) = weighed-met (Commit h) h (judged-commit z (m .state) (place-of h)) (commit-judged h)
+
+  pub conflict-met : MeetsConflict z m
+  conflict-met c h r = added-met
 
 -- ---- every machine that a run has come to
 

@@ -17,13 +17,13 @@ use Rattle.rules.specs.Daylog.{AllProper, no-value, trailer, commit-tota
 use Rattle.rules.specs.State.{State, Outcome, Entry, nothing, adds, closes, opens, entry-bytes, refused, recorded, record-at}
 use Rattle.rules.specs.Judged.{Judged, granted-of, turned-back}
 use Rattle.rules.specs.Steps.{own-read-of, judged-read, open-rule, begin-of, write-of, show-of, give-up-of, post-of, order-of, close-of, close-rule}
-use Rattle.rules.specs.Calls.{Call, Open, Begin, Write, Read, Show, Commit, GiveUp, Post, Order, Close, issued, handed-on, owns, IsJudged, read-judged, commit-judged}
+use Rattle.rules.specs.Calls.{Call, Open, Begin, Write, Read, Show, Commit, GiveUp, Post, Order, Close, issued, owns, IsJudged, read-judged, commit-judged}
 use Rattle.rules.specs.Kept.{LiveCaller, ShowsRecorded}
 use Rattle.rules.specs.Layout.{well-laid-out}
 use Rattle.rules.specs.Run.{Machine, lends, outcome, new-day, moved-on, after-call, played}
 use Rattle.rules.specs.Runs.{ran, record-of, read-kind, told, shown-on, shown-behind, told-call, told-run}
 use Rattle.rules.proofs.Log.StandingLog.{records-in-standing, day-of-standing}
-use Rattle.rules.proofs.Calls.EachCall.{never-nine, AskedOf, EachOutcome, refused-or, each-call}
+use Rattle.rules.proofs.Calls.EachCall.{handed-on, never-nine, AskedOf, EachOutcome, refused-or, each-call}
 use Rattle.rules.proofs.Runs.Handled.{record-of-live, reads-own-is}
 use Rattle.rules.proofs.Books.HandleLaws.{place-of-handle-of, turn-of-handle-of}
 use Rattle.rules.proofs.Calls.Joined.{records-counted}
