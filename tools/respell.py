@@ -16,8 +16,8 @@ NAME = re.compile(r"(?<![\w'’-])[^\W\d_][\w']*(?:-[\w'≡≢≤]+)*(?![\w'’]
 USE = re.compile(r"^(\s*)(ghost use|use|pub use) ([\w.+'-]+)\.\{([^}]*)\}", re.M)
 SPAN = re.compile(r"`[^`\n]+`")
 FILE = re.compile(r"/|\.(?:txt|day|sh|md|out|c|h|args)\b")
-# a name that would fall together with another one
-APART = {"least-below": "least_is_below"}
+# a name that would fall together with another one, and two constructors that port.py wrote with a capital
+APART = {"least-below": "least_is_below", "Gives-up": "gives_up", "Stands-live": "stands_live"}
 MADE = re.compile(r"(?:Need|After|Then|Else|invariant|decreases|InvT|MeasureT)-")
 
 
@@ -65,8 +65,8 @@ def code_and_rest(text, comment):
 
 
 def is_made(text, start, name):
-    """A name that Rattle makes: behind the module of a function's goals, or with one of its beginnings."""
-    return text[:start].endswith("tie.") or text[:start].endswith("goal.") or bool(MADE.match(name))
+    """A name that is not ours: behind the module of a function's goals or of a library's type, or with a beginning that Rattle gives."""
+    return text[:start].endswith(("tie.", "goal.", "Memᴰ.")) or bool(MADE.match(name))
 
 
 def turn_code(code, keep, modules, seen):

@@ -7,7 +7,7 @@ use checker::proposal::MOST_KEPT;
 use script::numbers;
 
 // The first numbers, how many they are, and whether every word so far is a number.
-#[derive(Drop)]
+#[derive(Clone, Copy)]
 pub struct Numbers {
     pub kept: [u16; MOST_KEPT],
     pub count: usize,

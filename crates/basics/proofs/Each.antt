@@ -58,7 +58,7 @@ module _ {A : Type 0} where
 module _ {A : Type 0} (P : A → Type 0) where
   -- it holds where there is none, and with one more of which it holds
   pub every_none : (x : A) → Memᴰ x [] → P x
-  every_none x m = absurd (Memᴰ.not_nil m)
+  every_none x m = absurd (Memᴰ.not-nil m)
 
   pub every_more : (y : A) (ys : List A) → P y → ((x : A) → Memᴰ x ys → P x) → (x : A) → Memᴰ x (y ∷ ys) → P x
   every_more y ys here rest x m = ⊎_elim (λ e. rw e here) (rest x) (Memᴰ.cases_cons m)

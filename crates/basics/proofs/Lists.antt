@@ -26,6 +26,7 @@ module _ {ℓ} {A : Type ℓ} (p : A → Bool) where
   -- each member passes
   pub all_in_at : (xs : List A) → all_in p xs ≡ true → {x : A} → Memᴰ x xs → p x ≡ true
   unfolding all_in
+  all_in_at [] e m = elim m [ ]
   all_in_at (y ∷ ys) e (Memᴰ.head q) = ap p q ∙ and_left (p y) (all_in p ys) e
   all_in_at (y ∷ ys) e (Memᴰ.tail m) = all_in_at ys (and_right (p y) (all_in p ys) e) m
 
@@ -37,6 +38,7 @@ module _ {ℓ} {A : Type ℓ} (p : A → Bool) where
   -- some member passes
   pub any_in_of : (xs : List A) {x : A} → Memᴰ x xs → p x ≡ true → any_in p xs ≡ true
   unfolding any_in
+  any_in_of [] m e = elim m [ ]
   any_in_of (y ∷ ys) (Memᴰ.head q) e = or_left (p y) (any_in p ys) (sym (ap p q) ∙ e)
   any_in_of (y ∷ ys) (Memᴰ.tail m) e = or_right (p y) (any_in p ys) (any_in_of ys m e)
 

@@ -12,7 +12,7 @@ use rules::{Record, Size, sizes};
 // whether somebody who is not listed has committed.
 // Beside it two arrays are lent, by position and cell, at 32 × position + cell: `wrote`, the record of its latest write, 0 for none, and
 // `read`, whether it made a judged read.
-#[derive(Drop)]
+#[derive(Clone, Copy)]
 pub struct Replay {
     pub holder: [u16; 32],
     pub commit: [u16; 32],

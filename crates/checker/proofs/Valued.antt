@@ -59,7 +59,7 @@ Valued log es = (e : Event) → Memᴰ e es → e.value ≡ value_at log e.numbe
 -- so it is with the first records of a log
 valued_first : (log : List ℕ) (n : ℕ) → Valued log (events (day_of log n))
 unfolding day_of events event
-valued_first log zero e m = absurd (Memᴰ.not_nil m)
+valued_first log zero e m = absurd (Memᴰ.not-nil m)
 valued_first log (suc n) e m =
     ⊎_elim
     (λ q. ap (λ x. x.value) q ∙ value_of_bytes log n ∙ ap (λ k. value_at log (suc k)) (sym (length_day_of log n)) ∙ ap (λ x. value_at log x.number) (sym q))

@@ -8,7 +8,7 @@ pub mod whole_day;
 use rules::Place;
 
 // What a call comes to: its number, the handle of a begin or post or the count of an order, and the books after it.
-#[derive(Drop)]
+#[derive(Clone, Copy)]
 pub struct Step {
     pub number: u8,
     pub answer: u32,

@@ -14,14 +14,14 @@ use sound::whole;
 use steps::{ending, looking, reading, taking};
 
 // Status is 0 free, 1 live, 2 committed; a record number of 0 means none.
-#[derive(Drop)]
+#[derive(Clone, Copy)]
 pub struct Books {
     pub records: u16,
     pub places: [Place; 32],
 }
 
 // What a call answers: its number, the handle of a begin or post or the count of an order (else 0), and the new books.
-#[derive(Drop)]
+#[derive(Clone, Copy)]
 pub struct Answer {
     pub number: u8,
     pub answer: u32,

@@ -14,7 +14,7 @@ use rules::numbers::GRANTED;
 use rules::sizes;
 
 // Which call it is.
-#[derive(Drop)]
+#[derive(Clone, Copy)]
 pub enum Kind {
     Open,
     Begin,
@@ -29,7 +29,7 @@ pub enum Kind {
 }
 
 // A call with its handle, its cell, and the number that a read gave, as far as it has them.
-#[derive(Drop)]
+#[derive(Clone, Copy)]
 pub struct Call {
     pub kind: Kind,
     pub handle: u32,

@@ -20,7 +20,7 @@ const SOUND: u8 = 2;
 const ROOM: usize = 262144;
 
 // What the rounds came to: the sum of the numbers given back, the last answer, and the records of the last books.
-#[derive(Drop)]
+#[derive(Clone, Copy)]
 struct Told {
     sum: u64,
     answer: u32,

@@ -9,7 +9,7 @@ use script::{input, lines, words};
 use texts::{answers, buffer};
 
 // Where the reading stands: the books, how many lines were played, how many bytes of the next line are held, and whether more may follow.
-#[derive(Drop)]
+#[derive(Clone, Copy)]
 struct Session {
     books: Books,
     lines: u64,

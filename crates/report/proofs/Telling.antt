@@ -10,7 +10,7 @@ use Rattle.basics.specs.Text.{text}
 use Rattle.basics.proofs.Bools.{split}
 use Rattle.rules.specs.Kinds.{kind_starts}
 use Rattle.rules.specs.Daylog.{decode, bytes_at, records_in, day_of}
-use Rattle.rules.specs.Day.{event, events, is_transaction, Standing, StandsLive, stands_committed, stands_gaveup, stands_conflict, stands_post}
+use Rattle.rules.specs.Day.{event, events, is_transaction, Standing, stands_live, stands_committed, stands_gaveup, stands_conflict, stands_post}
 use Rattle.rules.specs.Checker.{log_events}
 use Rattle.rules.specs.Report.{standing_word, first_line, transaction_line, transaction_lines}
 use Rattle.rules.proofs.Log.StandingLog.{length_day_of}
@@ -83,7 +83,7 @@ first_is records total = refl
 -- how a transaction stands
 word_is : (s : Standing) → word_told (standing_number s) ≡ standing_word s
 unfolding word_told standing_number standing_word
-word_is StandsLive = refl
+word_is stands_live = refl
 word_is stands_committed = refl
 word_is stands_gaveup = refl
 word_is stands_conflict = refl

@@ -35,14 +35,14 @@ good_handle z b h = not (out_of_range z h) && (is_held (named_place b h) && turn
 
 -- the five calls that take a handle to a transaction
 pub data Caller : Type 0 where
-  reads writes commits GivesUp orders : Caller
+  reads writes commits gives_up orders : Caller
 
 -- every call but order asks for a live transaction
 unfoldable pub asks_live : Caller → Bool
 asks_live reads = true
 asks_live writes = true
 asks_live commits = true
-asks_live GivesUp = true
+asks_live gives_up = true
 asks_live orders = false
 
 -- 3: handle out of range, place free, or turn differs

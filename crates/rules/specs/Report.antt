@@ -6,11 +6,11 @@ use Rattle.rules.specs.Numbers.{lent, bad_log}
 use Rattle.rules.specs.Kinds.{kind_starts}
 use Rattle.rules.specs.Daylog.{commits_in, records_in, day_of}
 use Rattle.rules.specs.Layout.{well_laid_out}
-use Rattle.rules.specs.Day.{Event, events, moment_of, Standing, StandsLive, stands_committed, stands_gaveup, stands_conflict, stands_post, stands}
+use Rattle.rules.specs.Day.{Event, events, moment_of, Standing, stands_live, stands_committed, stands_gaveup, stands_conflict, stands_post, stands}
 
 -- how it stands
 unfoldable pub standing_word : Standing → List ℕ
-standing_word StandsLive = text "live"
+standing_word stands_live = text "live"
 standing_word stands_committed = text "committed"
 standing_word stands_gaveup = text "gaveup"
 standing_word stands_conflict = text "conflict"

@@ -7,7 +7,7 @@ use crate::words;
 use texts::buffer;
 
 // Where the reading stands: the next byte of the piece, how many bytes of the line are held, and whether the line is whole.
-#[derive(Drop)]
+#[derive(Clone, Copy)]
 pub struct Taken {
     pub at: usize,
     pub held: usize,

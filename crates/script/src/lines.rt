@@ -48,7 +48,7 @@ const NUMBERS: [usize; 12] = [0, 2, 2, 1, 1, 1, 1, 0, 0, 0, 0, 0];
 const VALUES: [usize; 12] = [0, 3, 0, 0, 0, 2, 0, 0, 0, 0, 0, 0];
 
 // A line: its kind, and the numbers of a call (0 where it has none).
-#[derive(Drop)]
+#[derive(Clone, Copy)]
 pub struct Line {
     pub kind: usize,
     pub first: u32,

@@ -10,7 +10,7 @@ use rules::{Place, Size};
 
 // How many are live; by place, who is held and who is committed, and the begin and commit records.
 // The arrays are twice as wide as there can be places, so that 32 more stand behind each: who is not there is not held and has no records.
-#[derive(Drop)]
+#[derive(Clone, Copy)]
 pub struct Columns {
     pub live: u32,
     pub held: [bool; 64],

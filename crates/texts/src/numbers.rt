@@ -3,7 +3,7 @@ ghost use Rattle.std.specs.Prelude.{◌≡◌, ◌≤◌, length, drop};
 ghost use Rattle.basics.specs.Text.{digits};
 
 // A number's digits: they stand at the end of the text, from a place on.
-#[derive(Drop)]
+#[derive(Clone, Copy)]
 pub struct Spelled {
     pub text: [u8; 20],
     pub from: usize,

@@ -80,7 +80,7 @@ module _ (z : Size) where
   -- and that stays so
   sealed_after : (day : List Record) {e : Event} → walks z day ≡ true → Memᴰ e (events day) → kind_commits e.kind ≡ true → Sealed e.who day
   unfolding events event
-  sealed_after [] w m c = absurd (Memᴰ.not_nil m)
+  sealed_after [] w m c = absurd (Memᴰ.not-nil m)
   sealed_after (r ∷ earlier) {e} w m c =
       ⊎_elim (λ q. rw q (sealed_here r earlier w (rw q at c)))
       (λ k.
@@ -103,7 +103,7 @@ module _ (z : Size) where
   pub commits_unique : (day : List Record) {e f : Event} → walks z day ≡ true → Memᴰ e (events day) → Memᴰ f (events day)
       → kind_commits e.kind ≡ true → kind_commits f.kind ≡ true → e.who ≡ f.who → e ≡ f
   unfolding events event
-  commits_unique [] w m n ce cf q = absurd (Memᴰ.not_nil m)
+  commits_unique [] w m n ce cf q = absurd (Memᴰ.not-nil m)
   commits_unique (r ∷ earlier) {e} {f} w m n ce cf q =
       ⊎_elim
       (λ a. ⊎_elim (λ b. a ∙ sym b) (λ b. absurd (newer a b cf (sym q))) (event_cases r earlier n))

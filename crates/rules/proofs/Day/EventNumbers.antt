@@ -21,7 +21,7 @@ module _ (passes : Event → Bool) where
   -- an event that passes is no newer
   pub latest_newest : (day : List Record) {e : Event} → Memᴰ e (events day) → passes e ≡ true → e.number ≤ latest passes (events day)
   unfolding events event latest
-  latest_newest [] m p = absurd (mathlib.Core.List.Memᴰ.not_nil m)
+  latest_newest [] m p = absurd (mathlib.Core.List.Memᴰ.not-nil m)
   latest_newest (r ∷ earlier) {e} m p =
       ⊎_elim (λ (q : e ≡ event earlier r). rw (sym (ap passes q) ∙ p) (omega (arith, ap (λ x. x.number) q)))
       (λ (k : Memᴰ e (events earlier)).
@@ -68,7 +68,7 @@ module _ (passes : Event → Bool) where
   earliest_oldest : (day : List Record) {e : Event} → Memᴰ e (events day) → passes e ≡ true
       → (1 ≤ earliest passes (events day)) × (earliest passes (events day) ≤ e.number)
   unfolding events event earliest
-  earliest_oldest [] m p = absurd (mathlib.Core.List.Memᴰ.not_nil m)
+  earliest_oldest [] m p = absurd (mathlib.Core.List.Memᴰ.not-nil m)
   earliest_oldest (r ∷ earlier) {e} m p =
       let older = earliest passes (events earlier) in
       ⊎_elim

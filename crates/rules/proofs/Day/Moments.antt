@@ -80,7 +80,7 @@ moment_more z t r earlier w = equal_or_not (whose earlier r) t mine (λ q. rw (n
         split (kind_starts r.kind)
         (λ s.
         let number = sym q ∙ whose_starts earlier r s in
-        rw (same, sets_starts r.kind s, c, m, before, latest_none _ (events earlier) (none_yet (λ e. kind_moves_moment e.kind) earlier t (omega arith))) number)
+        rw (same, sets_starts r.kind s, c, m, before, latest_none (λ e. eqb e.who t && kind_moves_moment e.kind) (events earlier) (none_yet (λ e. kind_moves_moment e.kind) earlier t (omega arith))) number)
         (λ s. rw (same, (sets_nothing r.kind).1 (s, m, c), c, m))
 
 -- it is a number of the day

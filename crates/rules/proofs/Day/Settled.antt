@@ -38,7 +38,7 @@ event_there day later earlier r q = subst (λ (rs : List Record). Memᴰ (event 
 pub event_split : (day : List Record) {e : Event} → Memᴰ e (events day)
     → (later : List Record) × (r : Record) × (earlier : List Record) × (day ≡ later ++ (r ∷ earlier)) × (e ≡ event earlier r)
 unfolding events
-event_split [] m = absurd (Memᴰ.not_nil m)
+event_split [] m = absurd (Memᴰ.not-nil m)
 event_split (r ∷ earlier) m =
     ⊎_elim (λ q. ([], r, earlier, refl, q))
     (λ k. let s = event_split earlier k in (r ∷ s.0, s.1, s.2, ap (λ rs. r ∷ rs) s.3, s.4)) (event_cases r earlier m)
@@ -88,7 +88,7 @@ module _ (z : Size) where
   pub commit_last : (day : List Record) {e f : Event} → walks z day ≡ true → Memᴰ e (events day) → Memᴰ f (events day)
       → kind_commits e.kind ≡ true → f.who ≡ e.who → f.number ≤ e.number
   unfolding events event
-  commit_last [] w m n c q = absurd (Memᴰ.not_nil m)
+  commit_last [] w m n c q = absurd (Memᴰ.not-nil m)
   commit_last (r ∷ earlier) {e} {f} w m n c q =
       ⊎_elim
       (λ a. let top = ap (λ x. x.number) a in omega (arith, number_bounds (r ∷ earlier) n))

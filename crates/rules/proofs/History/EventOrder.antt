@@ -28,7 +28,7 @@ module _ (x : Event) (t : List Event) where
 
   before_parts : {e f : Event} (newer older : List Event) → x ∷ t ≡ newer ++ older → Memᴰ e older → Memᴰ f newer
       → ((f ≡ x) × Memᴰ e t) ⊎ Before t e f
-  before_parts [] older q m n = absurd (Memᴰ.not_nil n)
+  before_parts [] older q m n = absurd (Memᴰ.not-nil n)
   before_parts {e} (y ∷ newer) older q m n =
       let rest = tail-eq_of_cons-eq q in
       ⊎_elim (λ p. inl (p ∙ sym (head-eq_of_cons-eq q), subst (Memᴰ e) (sym rest) (Memᴰ.append_right newer m)))
@@ -60,7 +60,7 @@ single_head x t s q m = s x (before_newest x t (Memᴰ.cast (sym q) m) refl)
 
 -- of two, one comes before the other one way only
 pub single_before : (h : List Event) → Single h → (e f : Event) → Before h e f → Before h f e → ⊥
-single_before [] s e f b c = Memᴰ.not_nil (before_events [] b).0
+single_before [] s e f b c = Memᴰ.not-nil (before_events [] b).0
 single_before (x ∷ t) s e f b c =
     ⊎_elim
     (λ p. ⊎_elim (λ q. out p.0 q.1) (λ d. out p.0 (before_events t d).0) (before_cases x t c))
@@ -84,7 +84,7 @@ module _ (among : ℕ → Bool) (e f : Event) where
       (λ a. before_more x t (before_whole t (subst (λ (ys : List Event). Before ys e f) (sub_fails among x t a) b)))
 
   pub before_part : among e.who ≡ true → among f.who ≡ true → (h : List Event) → Before h e f → Before (subhist among h) e f
-  before_part y z [] b = absurd (Memᴰ.not_nil (before_events [] b).0)
+  before_part y z [] b = absurd (Memᴰ.not-nil (before_events [] b).0)
   before_part y z (x ∷ t) b =
       split (among x.who)
       (λ a.
@@ -111,13 +111,13 @@ Falling h = (e f : Event) → Before h e f → e.number < f.number
 
 falling_events : (day : List Record) → Falling (events day)
 unfolding events event
-falling_events [] e f b = absurd (Memᴰ.not_nil (before_events [] b).0)
+falling_events [] e f b = absurd (Memᴰ.not-nil (before_events [] b).0)
 falling_events (r ∷ earlier) e f b =
     ⊎_elim (λ p. omega (arith, number_bounds earlier p.1, ap (λ x. x.number) p.0)) (falling_events earlier e f) (before_cases (event earlier r) (events earlier) b)
 
 -- of two events of such a history the one with the lower number comes before
 before_lower : (h : List Event) → Falling h → (e f : Event) → Memᴰ e h → Memᴰ f h → e.number < f.number → Before h e f
-before_lower [] known e f i j l = absurd (Memᴰ.not_nil i)
+before_lower [] known e f i j l = absurd (Memᴰ.not-nil i)
 before_lower (x ∷ h) known e f i j l =
     ⊎_elim
     (λ a. absurd (newest a))

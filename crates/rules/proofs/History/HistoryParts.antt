@@ -40,14 +40,14 @@ module _ (among : ℕ → Bool) where
 
   -- its events are those of its transactions
   in_sub : (h : List Event) {e : Event} → Memᴰ e h → among e.who ≡ true → Memᴰ e (subhist among h)
-  in_sub [] m y = absurd (Memᴰ.not_nil m)
+  in_sub [] m y = absurd (Memᴰ.not-nil m)
   in_sub (x ∷ t) {e} m y =
       split (among x.who)
       (λ a. rw (sub_passes x t a) (⊎_elim Memᴰ.head (λ n. Memᴰ.tail (in_sub t n y)) (Memᴰ.cases_cons m)))
       (λ a. rw (sub_fails x t a) (⊎_elim (λ q. absurd (clash (sym (ap (λ (f : Event). among f.who) q) ∙ y) a)) (λ n. in_sub t n y) (Memᴰ.cases_cons m)))
 
   of_sub : (h : List Event) {e : Event} → Memᴰ e (subhist among h) → Memᴰ e h × (among e.who ≡ true)
-  of_sub [] {e} m = absurd (Memᴰ.not_nil (subst (Memᴰ e) sub_nothing m))
+  of_sub [] {e} m = absurd (Memᴰ.not-nil (subst (Memᴰ e) sub_nothing m))
   of_sub (x ∷ t) {e} m =
       split (among x.who)
       (λ a.

@@ -65,7 +65,7 @@ module _ (h : List Event) where
 
   -- its events are those of the listed
   of_turn : (order : List ℕ) {e : Event} → Memᴰ e (in_turn h order) → Memᴰ e h × (member e.who order ≡ true)
-  of_turn [] {e} m = absurd (Memᴰ.not_nil (subst (Memᴰ e) turn_nobody m))
+  of_turn [] {e} m = absurd (Memᴰ.not-nil (subst (Memᴰ e) turn_nobody m))
   of_turn (k ∷ later) {e} m =
       ⊎_elim (λ i. let r = of_turn later i in (r.0, member_tail e.who k later r.1))
       (λ i. let r = (only_of k h).0 i in (r.0, member_head e.who k later r.1))

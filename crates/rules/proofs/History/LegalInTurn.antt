@@ -76,7 +76,7 @@ module _ (opening : List ℕ) (es : List Event) (ends : CommitsEnd es) where
   -- at first there are none
   behind_none : (order : List ℕ) → Behind [] order []
   unfolding last_write carried
-  behind_none order = record { leaves = λ c. refl; others = λ k i e m. absurd (Memᴰ.not_nil m) }
+  behind_none order = record { leaves = λ c. refl; others = λ k i e m. absurd (Memᴰ.not-nil m) }
 
   -- then come those of the next one listed
   behind_next : (before : List ℕ) (m : ℕ) (later : List ℕ) (base : List Event) → distinct (m ∷ later) ≡ true → Behind before (m ∷ later) base

@@ -102,7 +102,7 @@ Listed s = (order : List ℕ) × ListsAll s order × (s ≡ in_turn s order)
 listed_nobody : Listed []
 unfolding in_turn
 listed_nobody =
-    ([], record { once = distinct_nil; all = λ k. (λ i. absurd (clash i (member_nil k)), λ x. absurd (Memᴰ.not_nil x.1.0)) }, refl)
+    ([], record { once = distinct_nil; all = λ k. (λ i. absurd (clash i (member_nil k)), λ x. absurd (Memᴰ.not-nil x.1.0)) }, refl)
 
 -- a list of the others, and then one of the transactions
 module _ (w : ℕ) (s : List Event) (mine : Txn s w) (order : List ℕ) (lists : ListsAll (subhist (others w) s) order) where

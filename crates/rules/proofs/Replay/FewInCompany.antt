@@ -46,7 +46,7 @@ module _ (z : Size) where
   committed_seat : (day : List Record) {e : Event} → walks z day ≡ true → Memᴰ e (events day) → kind_commits e.kind ≡ true
       → CommittedSeat e.who (seat day e.place)
   unfolding events event
-  committed_seat [] w m c = absurd (Memᴰ.not_nil m)
+  committed_seat [] w m c = absurd (Memᴰ.not-nil m)
   committed_seat (r ∷ earlier) {e} w m c = ⊎_elim newest (λ k. stays (committed_seat earlier v.0 k c)) (event_cases r earlier m)
     where
       v : (walks z earlier ≡ true) × (fits earlier r ≡ true)
@@ -64,7 +64,7 @@ module _ (z : Size) where
   -- each event has a place of the day
   place_bound : (day : List Record) {e : Event} → walks z day ≡ true → Memᴰ e (events day) → e.place < z.places
   unfolding events event walks
-  place_bound [] w m = absurd (Memᴰ.not_nil m)
+  place_bound [] w m = absurd (Memᴰ.not-nil m)
   place_bound (r ∷ earlier) w m =
       ⊎_elim (λ q. rw q ((fields_says z r).0 (and_left (fields_right z r) _ (and_right (walks z earlier) _ w))).place_known)
       (place_bound earlier (and_left (walks z earlier) _ w)) (event_cases r earlier m)
