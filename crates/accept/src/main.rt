@@ -1,4 +1,6 @@
 // Reads 256 opening bytes and a log from standard input, and holds an order to them: its arguments are a begin record and the order's numbers.
+#![tactic(auto)]
+
 mod answer;
 mod list;
 

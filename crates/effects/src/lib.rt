@@ -1,4 +1,6 @@
 // What a call does when no reason applies, and the record that it adds.
+#![tactic(auto)]
+
 pub mod held;
 pub mod judged;
 pub mod record;

@@ -1,4 +1,6 @@
 // The machine's call for a line of a script, and its making.
+#![tactic(auto)]
+
 ghost use Rattle.std.specs.Prelude.{◌≡◌, ◌<◌, take};
 ghost use Rattle.script.specs.LineCalls.{value_on};
 ghost use Rattle.machine.specs.Promises.{call_outcome, LeavesAll};

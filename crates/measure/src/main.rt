@@ -1,6 +1,8 @@
 // Repeats a call, so that it can be measured. `measure call ROUNDS` makes the calls of a script from standard input, all but the last, and then
 // the last one so many times, each time from the same books. `measure sound ROUNDS` instead tests those books for soundness so many times.
 // Prints the sum of the numbers given back (or how many tests were true), the last answer, and the records of the last books.
+#![tactic(auto)]
+
 use libc::{STDIN_FILENO, STDOUT_FILENO};
 use machine::books::Books;
 use machine::call;

@@ -1,4 +1,6 @@
 // Plays a script of calls from standard input, a call a line, and prints what each call gives back.
+#![tactic(auto)]
+
 mod calls;
 mod day;
 

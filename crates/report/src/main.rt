@@ -1,4 +1,6 @@
 // Reads 256 opening bytes and a log from standard input, and prints the report of that day.
+#![tactic(auto)]
+
 mod day;
 mod lines;
 

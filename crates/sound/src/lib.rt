@@ -1,3 +1,5 @@
 // Whether books are sound.
+#![tactic(auto)]
+
 pub mod clauses;
 pub mod whole;

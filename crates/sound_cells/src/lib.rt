@@ -1,2 +1,4 @@
 // What a place read, as soundness asks it.
+#![tactic(auto)]
+
 pub mod cells;

@@ -1,2 +1,4 @@
 // Keys that differ: begin and commit records.
+#![tactic(auto)]
+
 pub mod apart;

@@ -1,4 +1,6 @@
 // Text put together in a lent buffer: numbers in decimal, bytes in hexadecimal digits, and the lines that answers and refusals are printed as.
+#![tactic(auto)]
+
 pub mod answers;
 pub mod buffer;
 pub mod hex;

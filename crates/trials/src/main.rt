@@ -1,5 +1,7 @@
 // Runs the trials of document 01 that no theorem states: each state is reached by calls on the machine, and what a call gives back is printed
 // behind the state that it found.
+#![tactic(auto)]
+
 use libc::STDOUT_FILENO;
 use machine::books::Books;
 use rules::{sizes, statuses};

@@ -1,0 +1,47 @@
+-- `checker::desk::nogturshan_check` meets its contract: the first 33 numbers are unpacked, and the checker answers as for all. Assumes nothing.
+use Prim.Native.Nat.{ℕ, ◌/◌}
+use mathlib.Core.Path.{◌∙◌, ap}
+use mathlib.Core.Logic.{inl, inr, ⊎_elim}
+use native.Mathlib.Omega.{arith}
+use lib.ListN.{length, replicate}
+use lib.Seq.{length-take-le}
+use Rattle.rules.specs.Sizes.{yard}
+use Rattle.rules.specs.Checker.{checked}
+use Rattle.checker.proofs.Unpacked.{Counted, counted_most, counted_within, front_room, front_read, counted_alike, odd_refused}
+use Rattle.checker.proofs.desk.nogturshan_check.Goals as goal
+
+pub returns-then-list-ne0 : goal.returns-then-list-ne0
+returns-then-list-ne0 c = let a = c.args in odd_refused a.opening.now a.log.now a.list.now a.begin c.if-list-ne0.true
+
+pub slice_bounds-numbers-end : goal.slice_bounds-numbers-end
+slice_bounds-numbers-end c =
+    let bytes = c.args.list.now in
+    let count = c.if-all-lt-MOST_KEPT.count in
+    let counted : Counted count (length bytes / 2) = ⊎_elim (λ w. inl (w.0.taken, w.1)) (λ w. inr (w.0.left, w.1)) c.if-all-lt-MOST_KEPT.branch in
+    counted_most counted
+
+pub unpack-requires : goal.unpack-requires
+unpack-requires c =
+    let bytes = c.args.list.now in
+    let count = c.if-all-lt-MOST_KEPT.count in
+    let counted : Counted count (length bytes / 2) = ⊎_elim (λ w. inl (w.0.taken, w.1)) (λ w. inr (w.0.left, w.1)) c.if-all-lt-MOST_KEPT.branch in
+    omega (arith, length-take-le {A = ℕ} count (replicate 33 0) (counted_most counted), counted_within counted)
+
+pub slice_bounds-numbers-end-2 : goal.slice_bounds-numbers-end-2
+slice_bounds-numbers-end-2 c =
+    let bytes = c.args.list.now in
+    let count = c.if-all-lt-MOST_KEPT.count in
+    let counted : Counted count (length bytes / 2) = ⊎_elim (λ w. inl (w.0.taken, w.1)) (λ w. inr (w.0.left, w.1)) c.if-all-lt-MOST_KEPT.branch in
+    front_room bytes (replicate 33 0) c.unpack.new.1.0 count (counted_most counted) (counted_within counted) c.unpack.ensures
+
+pub returns : goal.returns
+returns c =
+    let bytes = c.args.list.now in
+    let count = c.if-all-lt-MOST_KEPT.count in
+    let counted : Counted count (length bytes / 2) = ⊎_elim (λ w. inl (w.0.taken, w.1)) (λ w. inr (w.0.left, w.1)) c.if-all-lt-MOST_KEPT.branch in
+    let a = c.args in
+    let got = c.unpack.new.1.0 in
+    let read = front_read bytes (replicate 33 0) got count (counted_most counted) (counted_within counted) c.unpack.ensures in
+    c.checked.ensures
+    ∙ ap (checked yard a.opening.now a.log.now a.begin) read
+    ∙ counted_alike a.opening.now a.log.now bytes a.begin count c.if-list-ne0.false counted

@@ -1,0 +1,11 @@
+-- `report::lines::labelled` meets its contract: the label, and the number behind it. Assumes nothing.
+use Rattle.texts.proofs.Saying.{one_placed, first_placed}
+use Rattle.report.specs.Reported.{labelled}
+use Rattle.report.proofs.lines.labelled.Goals as goal
+
+pub returns : goal.returns
+unfolding labelled
+returns c =
+    let named = c.put-next in
+    let last = c.put_decimal in
+    first_placed _ _ _ named.ensures.0 named.ensures.1 _ (one_placed _ _ _ last.ensures.0 last.ensures.1)
