@@ -6,4 +6,4 @@ use Rattle.cells.proofs.cell.put_value_at.Goals as goal
 pub returns : goal.returns
 returns c =
     let put = c.put_value in
-    cell_written c.args.cell c.args.into.now c.args.value put.new.0 put.ensures (omega arith)
+    cell_written c.args.cell c.args.into.now c.args.value put.new.out put.ensures (omega arith)

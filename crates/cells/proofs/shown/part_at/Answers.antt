@@ -4,4 +4,7 @@ use Rattle.cells.proofs.Written.{cell_part}
 use Rattle.cells.proofs.shown.part_at.Goals as goal
 
 pub returns : goal.returns
-returns c = (cell_part c.args.cell c.args.from.now, refl)
+returns c = record {
+  contents = cell_part c.args.cell c.args.from.now;
+  place = refl;
+}

@@ -42,8 +42,10 @@ follow-kept-requires c =
     let turn = c.loop-n in
     let below : turn.n < c.args.records = omega arith in
     let place = entry_place _ _ _ _ _ _ c.requires.within c.requires.records_in_bounds.0.1 c.requires.records_in_bounds.1.1.0.0 c.requires.records_in_bounds.1.0.1 _ _ below turn.invariant.1 _ c.record_at-entry.ensures in
-    let cell = entry_cell _ _ _ _ _ _ c.requires.within c.requires.records_in_bounds.0.1 c.requires.records_in_bounds.1.1.0.0 c.requires.records_in_bounds.1.0.1 _ _ below turn.invariant.1 _ c.record_at-entry.ensures in
-    (c.requires.within, (c.requires.records_in_bounds.1.0.1, (place, cell.within)))
+    let cell = entry_cell _ _ _ _ _ _ c.requires.within c.requires.records_in_bounds.0.1 c.requires.records_in_bounds.1.1.0.0 c.requires.records_in_bounds.1.0.1 _ _ below turn.invariant.1 _ c.record_at-entry.ensures in record {
+      within = c.requires.within;
+      count_le_width = (c.requires.records_in_bounds.1.0.1, (place, cell.within));
+    }
 
 pub loop-n-preserved : goal.loop-n-preserved
 loop-n-preserved c =

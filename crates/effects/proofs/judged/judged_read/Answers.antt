@@ -11,12 +11,16 @@ pub returns-then-is_conflict : goal.returns-then-is_conflict
 returns-then-is_conflict c =
     let a = c.args in
     let j = judged_read a.z (state_of (books_of a.records a.places) a.table.now []) a.i a.c in
-    let back = judged_back a.records a.places a.log.now a.z a.i a.table.now [] j c.mark_read.ensures c.changed-as_granted.ensures c.is_conflict.ensures c.if-is_conflict.true c.turn_back.ensures in
-    (back.0, back.1.1)
+    let back = judged_back a.records a.places a.log.now a.z a.i a.table.now [] j c.mark_read.ensures c.changed-as_granted.ensures c.is_conflict.ensures c.if-is_conflict.true c.turn_back.ensures in record {
+      step = back.0;
+      log = back.1.1;
+    }
 
 pub returns : goal.returns
 returns c =
     let a = c.args in
     let j = judged_read a.z (state_of (books_of a.records a.places) a.table.now []) a.i a.c in
-    let on = judged_on a.records a.places a.log.now a.z a.i a.table.now [] j c.mark_read.ensures c.changed-as_granted.ensures c.is_conflict.ensures c.if-is_conflict.false c.value_at-value.ensures refl c.add.ensures in
-    (on.0, on.1.1)
+    let on = judged_on a.records a.places a.log.now a.z a.i a.table.now [] j c.mark_read.ensures c.changed-as_granted.ensures c.is_conflict.ensures c.if-is_conflict.false c.value_at-value.ensures refl c.add.ensures in record {
+      step = on.0;
+      log = on.1.1;
+    }

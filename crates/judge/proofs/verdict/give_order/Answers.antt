@@ -15,9 +15,9 @@ returns c =
     let b = of_places a.places in
     let present = c.company_of-members in
     let rows = c.square-rows in
-    let begins = c.begins_of-begins in (
-      put.ensures.next ∙ count_right z c.requires.within b a.i present.result rows.result present.ensures rows.ensures begins.result begins.ensures,
-      put.ensures.bytes
+    let begins = c.begins_of-begins in record {
+      count = put.ensures.next ∙ count_right z c.requires.within b a.i present.result rows.result present.ensures rows.ensures begins.result begins.ensures;
+      numbers = put.ensures.bytes
           ∙ ap (λ (order : List ℕ). buffer_after order a.numbers.now)
-          (order_right z c.requires.within b a.i present.result rows.result present.ensures rows.ensures begins.result begins.ensures),
-    )
+          (order_right z c.requires.within b a.i present.result rows.result present.ensures rows.ensures begins.result begins.ensures);
+    }

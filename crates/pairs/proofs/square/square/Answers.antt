@@ -36,17 +36,16 @@ loop-k-preserved c =
 
 pub loop-m-preserved : goal.loop-m-preserved
 unfolding row_of
-loop-m-preserved c =
-    (
-      omega arith,
-      ⊎_elim
-          (λ w.
-          filled_set _ _ _ _ c.loop-m.invariant.1 (omega arith)
-          (filled_whole _ _ _ _ w.2.inv.1 _ w.2.inv.0 w.4.left ∙ sym (cond_passes _ _ w.0.taken))
-          w.5)
-          (λ w. filled_passed _ _ _ _ c.loop-m.invariant.1 (cond_fails _ _ w.0.left) w.1)
-          c.if-present-m.branch,
-    )
+loop-m-preserved c = (
+  omega arith,
+  ⊎_elim
+      (λ w.
+      filled_set _ _ _ _ c.loop-m.invariant.1 (omega arith)
+      (filled_whole _ _ _ _ w.2.inv.1 _ w.2.inv.0 w.4.left ∙ sym (cond_passes _ _ w.0.taken))
+      w.5)
+      (λ w. filled_passed _ _ _ _ c.loop-m.invariant.1 (cond_fails _ _ w.0.left) w.1)
+      c.if-present-m.branch,
+)
 
 pub returns : goal.returns
 unfolding square_of

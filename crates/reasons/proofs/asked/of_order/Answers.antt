@@ -55,7 +55,10 @@ returns-then-number-ne-GRANTED c =
 
 pub is_conflict-requires : goal.is_conflict-requires
 is_conflict-requires c =
-    (c.requires, rw c.place_of.ensures (handle_named c.args.z (books c) orders c.args.handle (found c) c.if-number-ne-GRANTED.false))
+    record {
+      within = c.requires;
+      i_lt_places = rw c.place_of.ensures (handle_named c.args.z (books c) orders c.args.handle (found c) c.if-number-ne-GRANTED.false);
+    }
 
 pub returns-then-is_conflict : goal.returns-then-is_conflict
 returns-then-is_conflict c = handle_passes c (is_first unsound (cycle_asked c) [] c.if-is_conflict.true)

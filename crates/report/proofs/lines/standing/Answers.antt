@@ -20,37 +20,47 @@ unfolding word_told text
 returns-in-0 c =
     let start = c.args in
     let put = c.put in
-    let same = ap word_told (sym c.in-0.keys1) in
-    (put.ensures.next ∙ after_same start.out.now start.at same, put.ensures.bytes ∙ with_same start.out.now start.at same)
+    let same = ap word_told (sym c.in-0.keys1) in record {
+      next = put.ensures.next ∙ after_same start.out.now start.at same;
+      bytes = put.ensures.bytes ∙ with_same start.out.now start.at same;
+    }
 
 pub returns-in-1 : goal.returns-in-1
 unfolding word_told text
 returns-in-1 c =
     let start = c.args in
     let put = c.put-in-1 in
-    let same = ap word_told (sym c.in-1.keys2) in
-    (put.ensures.next ∙ after_same start.out.now start.at same, put.ensures.bytes ∙ with_same start.out.now start.at same)
+    let same = ap word_told (sym c.in-1.keys2) in record {
+      next = put.ensures.next ∙ after_same start.out.now start.at same;
+      bytes = put.ensures.bytes ∙ with_same start.out.now start.at same;
+    }
 
 pub returns-in-2 : goal.returns-in-2
 unfolding word_told text
 returns-in-2 c =
     let start = c.args in
     let put = c.put-in-2 in
-    let same = ap word_told (sym c.in-2.keys3) in
-    (put.ensures.next ∙ after_same start.out.now start.at same, put.ensures.bytes ∙ with_same start.out.now start.at same)
+    let same = ap word_told (sym c.in-2.keys3) in record {
+      next = put.ensures.next ∙ after_same start.out.now start.at same;
+      bytes = put.ensures.bytes ∙ with_same start.out.now start.at same;
+    }
 
 pub returns-in-3 : goal.returns-in-3
 unfolding word_told text
 returns-in-3 c =
     let start = c.args in
     let put = c.put-in-3 in
-    let same = ap word_told (sym c.in-3.keys4) in
-    (put.ensures.next ∙ after_same start.out.now start.at same, put.ensures.bytes ∙ with_same start.out.now start.at same)
+    let same = ap word_told (sym c.in-3.keys4) in record {
+      next = put.ensures.next ∙ after_same start.out.now start.at same;
+      bytes = put.ensures.bytes ∙ with_same start.out.now start.at same;
+    }
 
 pub returns-in_default : goal.returns-in_default
 unfolding word_told text
 returns-in_default c =
     let start = c.args in
     let put = c.put-in_default in
-    let same = let rest = c.in_default.rest in others start.number rest.0.0.0.1 rest.0.0.1 rest.0.1 rest.1 in
-    (put.ensures.next ∙ after_same start.out.now start.at same, put.ensures.bytes ∙ with_same start.out.now start.at same)
+    let same = let rest = c.in_default.rest in others start.number rest.0.0.0.1 rest.0.0.1 rest.0.1 rest.1 in record {
+      next = put.ensures.next ∙ after_same start.out.now start.at same;
+      bytes = put.ensures.bytes ∙ with_same start.out.now start.at same;
+    }

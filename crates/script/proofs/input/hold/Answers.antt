@@ -8,13 +8,21 @@ use Rattle.script.proofs.Holding.{held_too_many, held_all}
 use Rattle.script.proofs.input.hold.Goals as goal
 
 pub returns-then-line-held : goal.returns-then-line-held
-returns-then-line-held c = (held_too_many _ _ _ (omega arith), left_out _ _ _ (omega arith))
+returns-then-line-held c = record {
+  next = held_too_many _ _ _ (omega arith);
+  bytes = left_out _ _ _ (omega arith);
+}
 
 pub returns-then-line-held-2 : goal.returns-then-line-held-2
-returns-then-line-held-2 c = (held_too_many _ _ _ (omega arith), left_out _ _ _ (omega arith))
+returns-then-line-held-2 c = record {
+  next = held_too_many _ _ _ (omega arith);
+  bytes = left_out _ _ _ (omega arith);
+}
 
 pub returns : goal.returns
 returns c =
     let start = c.args in
-    let put = c.put in
-    (put.ensures.next ∙ held_all (length start.line.now) start.held (length start.more.now) (omega arith), put.ensures.bytes)
+    let put = c.put in record {
+      next = put.ensures.next ∙ held_all (length start.line.now) start.held (length start.more.now) (omega arith);
+      bytes = put.ensures.bytes;
+    }

@@ -14,8 +14,8 @@ returns-then-end-piece c =
     let piece = start.piece.now in
     let line = start.line.now in
     let size = part_size piece start.at end.result end.ensures.1 end.ensures.2 in (
-      taken_whole piece start.at (length line) start.held end.ensures.0 size hold.ensures.0 (omega arith),
-      ((λ h. omega arith, omega arith), hold.ensures.1 ∙ with_same line start.held (rest_is piece start.at end.ensures.0)),
+      taken_whole piece start.at (length line) start.held end.ensures.0 size hold.ensures.next (omega arith),
+      ((λ h. omega arith, omega arith), hold.ensures.bytes ∙ with_same line start.held (rest_is piece start.at end.ensures.0)),
     )
 
 pub returns : goal.returns
@@ -26,6 +26,6 @@ returns c =
     let piece = start.piece.now in
     let line = start.line.now in
     let size = part_size piece start.at end.result end.ensures.1 end.ensures.2 in (
-      taken_part piece start.at (length line) start.held end.ensures.0 size hold.ensures.0 (omega arith),
-      ((λ h. omega arith, omega arith), hold.ensures.1 ∙ with_same line start.held (rest_is piece start.at end.ensures.0)),
+      taken_part piece start.at (length line) start.held end.ensures.0 size hold.ensures.next (omega arith),
+      ((λ h. omega arith, omega arith), hold.ensures.bytes ∙ with_same line start.held (rest_is piece start.at end.ensures.0)),
     )

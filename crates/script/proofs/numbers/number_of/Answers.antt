@@ -10,12 +10,11 @@ pub loop-i-init : goal.loop-i-init
 loop-i-init c = (search rules, search rules, named_none c.args.word.now)
 
 pub loop-i-preserved : goal.loop-i-preserved
-loop-i-preserved c =
-    (
-      search rules,
-      search rules,
-      c.with_digit-n.ensures.0 ∙ named_more c.args.word.now c.loop-i.i c.loop-i.n c.loop-i.invariant.2,
-    )
+loop-i-preserved c = (
+  search rules,
+  search rules,
+  c.with_digit-n.ensures.0 ∙ named_more c.args.word.now c.loop-i.i c.loop-i.n c.loop-i.invariant.2,
+)
 
 pub returns : goal.returns
 returns c =

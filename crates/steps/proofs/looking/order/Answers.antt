@@ -17,8 +17,10 @@ returns-then-number-ne-GRANTED c =
 
 pub order-requires : goal.order-requires
 order-requires c =
-    let a = c.args in
-    (c.requires, order_known a.z a.records a.places c.if-number-ne-GRANTED.false a.handle c.place_of.ensures c.of_order-number.ensures)
+    let a = c.args in record {
+      within = c.requires;
+      i_lt_places = order_known a.z a.records a.places c.if-number-ne-GRANTED.false a.handle c.place_of.ensures c.of_order-number.ensures;
+    }
 
 pub returns : goal.returns
 unfolding order_rule

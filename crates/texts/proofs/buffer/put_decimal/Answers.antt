@@ -9,5 +9,7 @@ pub returns : goal.returns
 returns c =
     let start = c.args in
     let put = c.put_number in
-    let same = decimal_is start.n (omega arith) in
-    (put.ensures.next ∙ after_same start.out.now start.at same, put.ensures.bytes ∙ with_same start.out.now start.at same)
+    let same = decimal_is start.n (omega arith) in record {
+      next = put.ensures.next ∙ after_same start.out.now start.at same;
+      bytes = put.ensures.bytes ∙ with_same start.out.now start.at same;
+    }

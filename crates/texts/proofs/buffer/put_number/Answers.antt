@@ -8,5 +8,7 @@ returns c =
     let start = c.args in
     let put = c.put in
     let spelled = c.decimal-spelled in
-    let same = tail_is spelled.result.text spelled.result.from 20 spelled.ensures.0 ∙ spelled.ensures.2 in
-    (put.ensures.next ∙ after_same start.out.now start.at same, put.ensures.bytes ∙ with_same start.out.now start.at same)
+    let same = tail_is spelled.result.text spelled.result.from 20 spelled.ensures.0 ∙ spelled.ensures.2 in record {
+      next = put.ensures.next ∙ after_same start.out.now start.at same;
+      bytes = put.ensures.bytes ∙ with_same start.out.now start.at same;
+    }
