@@ -11,7 +11,7 @@ pub returns-then-is_conflict : goal.returns-then-is_conflict
 returns-then-is_conflict c =
     let a = c.args in
     let j = judged_read a.z (state_of (books_of a.records a.places) a.table.now []) a.i a.c in
-    let back = judged_back a.records a.places a.log.now a.z a.i a.table.now [] j c.mark_read.ensures c.changed-as_granted.ensures c.is_conflict.ensures c.if-is_conflict.true c.turn_back.ensures in record {
+    let back = judged_back a.records a.places a.log.now a.z a.i a.table.now [] j c.mark_read.ensures c.changed-as_granted.ensures c.is_conflict.ensures c.if-is_conflict.true (c.turn_back.ensures.step, c.turn_back.ensures.log) in record {
       step = back.0;
       log = back.1.1;
     }
