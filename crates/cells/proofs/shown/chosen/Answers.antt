@@ -8,7 +8,7 @@ use Rattle.cells.proofs.shown.chosen.Goals as goal
 
 pub part_at-requires : goal.part_at-requires
 part_at-requires c =
-    omega (arith, draft_inside c.args.z c.requires.i_lt_places.0.0 c.requires.i_lt_places.0.1)
+    omega (arith, draft_inside c.args.z c.requires.i_lt_places.0 c.requires.i_lt_places.1)
 
 pub returns-then-written : goal.returns-then-written
 unfolding shown_bytes shown_at

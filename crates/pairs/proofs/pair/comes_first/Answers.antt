@@ -1,6 +1,5 @@
 -- `pairs::pair::comes_first` meets its contract. The loop's invariant: each flag says whether there is such a cell below c. The measure is what is left of the cells.
 -- Assumes nothing.
-use Prim.Native.Nat.{◌-◌}
 use mathlib.Core.Path.{◌≡◌, sym}
 use native.Mathlib.Omega.{arith}
 use Rattle.basics.proofs.Below.{any_none, any_more}

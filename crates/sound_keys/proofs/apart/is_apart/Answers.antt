@@ -1,10 +1,8 @@
 -- `sound_keys::apart::is_apart` meets its contract. The loop's invariant: the flag says whether the places passed have other keys than place i. Assumes nothing.
-use Prim.Native.Nat.{◌-◌}
 use mathlib.Core.Path.{◌≡◌, sym, ◌∙◌, ap, ap₂}
 use mathlib.Core.Bool.{Bool, true, false, not, ◌&&◌}
 use lib.ListN.{get_or}
 use native.Mathlib.Omega.{arith}
-use borrow.Author.Tests.{not-true, not-false}
 use Rattle.basics.specs.Below.{all_below}
 use Rattle.basics.proofs.Below.{all_none, all_more, all_of}
 use Rattle.rules.specs.Sizes.{width}
@@ -20,8 +18,7 @@ pub returns-then-not-passes-i : goal.returns-then-not-passes-i
 unfolding apart
 returns-then-not-passes-i c =
     let s = c.args in
-    let out = not-true (get_or s.passes.now s.i false) c.if-not-passes-i.true in
-    sym (all_of (unlike s.passes.now s.keys.now s.i) width (λ k h. rw out))
+    sym (all_of (unlike s.passes.now s.keys.now s.i) width (λ k h. rw c.if-not-passes-i.true))
 
 pub loop-k-init : goal.loop-k-init
 loop-k-init c = let s = c.args in (omega arith, sym (all_none (unlike s.passes.now s.keys.now s.i)))
@@ -31,8 +28,7 @@ loop-k-preserved c =
     let s = c.args in
     let loop = c.loop-k in
     let here = get_or s.passes.now s.i false in
-    let passes = not-false here c.if-not-passes-i.false in
-    (omega arith, ap₂ ◌&&◌ loop.invariant.1 (second_asked here _ passes) ∙ sym (all_more (unlike s.passes.now s.keys.now s.i) loop.k))
+    (omega arith, ap₂ ◌&&◌ loop.invariant.1 (second_asked here _ c.if-not-passes-i.false) ∙ sym (all_more (unlike s.passes.now s.keys.now s.i) loop.k))
 
 pub returns : goal.returns
 unfolding apart

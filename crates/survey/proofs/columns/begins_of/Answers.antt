@@ -1,5 +1,4 @@
 -- `survey::columns::begins_of` fills in the begin records place by place. Assumes nothing.
-use Prim.Native.Nat.{◌-◌}
 use mathlib.Core.Path.{refl}
 use native.Mathlib.Omega.{arith}
 use borrow.Author.Rules.{rules}

@@ -1,8 +1,7 @@
 -- `survey::columns::columns_of` fills in all columns, place by place. The loop's invariant: they are those of the places passed.
 -- Rests on the contract of `is_held`.
-use Prim.Native.Nat.{ℕ, ◌+◌, ◌-◌}
+use Prim.Native.Nat.{ℕ, ◌+◌}
 use mathlib.Core.Path.{◌≡◌, refl, sym, subst}
-use mathlib.Core.Logic.{⊎_elim}
 use mathlib.Core.Bool.{Bool, false}
 use native.Mathlib.Omega.{arith}
 use borrow.Author.Tests.{eq-eqb, ne_eqb}
@@ -12,6 +11,7 @@ use Rattle.rules.specs.Sizes.{width}
 use Rattle.rules.specs.Books.{of_places, place_at, is_live, is_held, is_committed, live_count}
 use Rattle.survey.specs.Columned.{Columned}
 use Rattle.survey.proofs.columns.columns_of.Goals as goal
+use Rattle.survey.proofs.columns.columns_of.Goals.{then-p-eq-LIVE, else-p-eq-LIVE}
 
 pub loop-i-init : goal.loop-i-init
 unfolding live_count
@@ -45,9 +45,10 @@ loop-i-preserved c =
       omega arith,
       record {
         live =
-            ⊎_elim
-            (λ w. omega (arith, so_far.live, w.1, count_passes live_at loop.i (eq-eqb status 1 w.0.taken)))
-            (λ w. omega (arith, so_far.live, w.1, count_skips live_at loop.i (ne_eqb status 1 w.0.left))) c.if-p-eq-LIVE.branch;
+            elim c.if-p-eq-LIVE.branch [
+              | then-p-eq-LIVE w ↦ omega (arith, so_far.live, w.live-is, count_passes live_at loop.i (eq-eqb status 1 w.if-p-eq-LIVE.true))
+              | else-p-eq-LIVE w ↦ omega (arith, so_far.live, w.live-is, count_skips live_at loop.i (ne_eqb status 1 w.if-p-eq-LIVE.false))
+            ];
         held = filled_set _ _ _ _ so_far.held (omega arith) c.is_held.ensures refl;
         committed = filled_set _ _ _ _ so_far.committed (omega arith) refl refl;
         begins = filled_set _ _ _ _ so_far.begins (omega arith) refl refl;

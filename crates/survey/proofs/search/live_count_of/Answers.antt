@@ -1,7 +1,5 @@
 -- `survey::search::live_count_of` meets its contract. The loop's invariant: the live places below i are counted. Assumes nothing.
-use Prim.Native.Nat.{◌-◌}
 use mathlib.Core.Path.{◌≡◌, ◌∙◌, ap}
-use mathlib.Core.Logic.{⊎_elim}
 use native.Mathlib.Omega.{arith}
 use borrow.Author.Tests.{eq-eqb, ne_eqb}
 use Rattle.basics.specs.Below.{count_below}
@@ -9,6 +7,7 @@ use Rattle.basics.proofs.Below.{count_none, count_passes, count_skips, count_at_
 use Rattle.rules.specs.Books.{place_at, live_count, of_places}
 use Rattle.survey.proofs.search.live_count_of.Invariants.{live_at}
 use Rattle.survey.proofs.search.live_count_of.Goals as goal
+use Rattle.survey.proofs.search.live_count_of.Goals.{then-places-i-eq-LIVE, else-places-i-eq-LIVE}
 
 pub loop-i-init : goal.loop-i-init
 loop-i-init c = omega (arith, count_none (live_at c.args.places))
@@ -22,9 +21,10 @@ loop-i-preserved c =
     let loop = c.loop-i in
     let status = (place_at (of_places s.places) loop.i).status in (
       omega arith,
-      ⊎_elim
-          (λ w. omega (arith, w.1, count_passes (live_at s.places) loop.i (eq-eqb status 1 w.0.taken)))
-          (λ w. omega (arith, w.1, count_skips (live_at s.places) loop.i (ne_eqb status 1 w.0.left))) c.if-places-i-eq-LIVE.branch,
+      elim c.if-places-i-eq-LIVE.branch [
+        | then-places-i-eq-LIVE w ↦ omega (arith, w.live-is, count_passes (live_at s.places) loop.i (eq-eqb status 1 w.if-places-i-eq-LIVE.true))
+        | else-places-i-eq-LIVE w ↦ omega (arith, w.live-is, count_skips (live_at s.places) loop.i (ne_eqb status 1 w.if-places-i-eq-LIVE.false))
+      ],
     )
 
 pub returns : goal.returns

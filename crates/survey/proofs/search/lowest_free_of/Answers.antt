@@ -1,5 +1,5 @@
 -- `survey::search::lowest_free_of` meets its contract. The loop's invariant: the search has found no free place so far. Assumes nothing.
-use Prim.Native.Nat.{ℕ, ◌-◌}
+use Prim.Native.Nat.{ℕ}
 use mathlib.Core.Path.{◌≡◌, sym, subst}
 use native.Mathlib.Omega.{arith}
 use borrow.Author.Tests.{eq-eqb, ne_eqb}
