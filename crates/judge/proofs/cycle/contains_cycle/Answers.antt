@@ -1,8 +1,8 @@
 -- `judge::cycle::contains_cycle` meets its contract. Around 'peel elimination of those left gives everybody exactly if that of those present does;
 -- 'pass has met nobody clear so far; the loop inside has met nobody before the one at m. Each round takes one mark away. Assumes nothing.
-use Prim.Native.Nat.{ℕ, ◌-◌}
+use Prim.Native.Nat.{ℕ}
 use mathlib.Core.Path.{◌≡◌, refl, sym, ◌∙◌, ap, subst}
-use mathlib.Core.Logic.{inl, inr, ⊎_elim}
+use mathlib.Core.Logic.{inl, inr}
 use mathlib.Core.Bool.{Bool, true, not}
 use mathlib.Core.List.{List}
 use native.Mathlib.Omega.{arith}
@@ -16,10 +16,11 @@ use Rattle.judge.proofs.Unmarked.{left_in_row, row_skips, unmarked_fewer, unmark
 use Rattle.judge.proofs.Peel.{Passed, passed_none, passed_blocked, passed_gone, passed_all}
 use Rattle.judge.proofs.cycle.contains_cycle.Invariants.{row}
 use Rattle.judge.proofs.cycle.contains_cycle.Goals as goal
+use Rattle.judge.proofs.cycle.contains_cycle.Goals.{else-left-k-via-then-left-k+else-rows-m, else-left-k-via-else-left-k}
 
 -- the one whose row is looked through is left
-is_left : (c : tie.At-loop invariant-loop decreases-loop invariant-pass decreases-pass invariant-peel decreases-peel) → is_in c.before.before.before.pass.left c.loop.m ≡ true
-is_left c = ap (is_in c.before.before.before.pass.left) c.loop.invariant.1 ∙ c.before.if1.true
+is_left : (left : List Bool) {k m : ℕ} → k ≡ m → is_in left m ≡ true → is_in left k ≡ true
+is_left left e t = ap (is_in left) e ∙ t
 
 pub pass-init : goal.pass-init
 pass-init c =
@@ -40,20 +41,26 @@ pass-preserved-then-rows-m c =
     let before = said_before a.rows in
     let passed = subst (λ (m : ℕ). Passed a.places before left m pass.any) (sym loop.invariant.1) pass.invariant.2 in
     let stands = and_both (left loop.k) (before loop.k loop.m) c.if-left-k.true c.if-rows-m.true in
-    (omega arith, pass.invariant.1, passed_blocked passed (is_left c) loop.k c.loop-k-test.true stands)
+    (omega arith, pass.invariant.1, passed_blocked passed (is_left pass.left c.loop-k.invariant.1 c.if-left-m.true) loop.k c.loop-k-test.true stands)
 
 pub loop-k-preserved : goal.loop-k-preserved
 loop-k-preserved c =
     let loop = c.loop-k in
-    let rows = c.args.rows in
-    let fails = ⊎_elim (λ w. inr w.2.left) (λ w. inl w.left) c.else-left-k.branch in
-    (omega arith, loop.invariant.1, row_skips c.pass.left (row rows loop.m) loop.k loop.invariant.2 fails)
+    let rows = c.args.rows in (
+      omega arith,
+      loop.invariant.1,
+      row_skips c.pass.left (row rows loop.m) loop.k loop.invariant.2
+          (elim c.else-left-k.branch [
+            | else-left-k-via-then-left-k+else-rows-m w ↦ inr w.if-rows-m.false
+            | else-left-k-via-else-left-k w ↦ inl w.if-left-k.false
+          ]),
+    )
 
 pub peel-smaller : goal.peel-smaller
 peel-smaller c =
     let pass = c.pass in
     let a = c.args in
-    let fewer = unmarked_fewer a.places (said_before a.rows) pass.left c.loop-k.m (omega arith) (is_left c) in
+    let fewer = unmarked_fewer a.places (said_before a.rows) pass.left c.loop-k.m (omega arith) (is_left pass.left c.loop-k.invariant.1 c.if-left-m.true) in
     let same = ap (λ (left : List Bool). count_below (is_in left) a.places) pass.invariant.1 in
     omega arith
 
@@ -67,7 +74,7 @@ peel-preserved c key =
     let nobody = ap (any_below (left_in_row pass.left (row a.rows m))) (sym end) ∙ c.loop-k.invariant.2 in
     peel.invariant key
     ∙ ap (λ (left : List Bool). gives_all a.places (said_before a.rows) key (is_in left)) (sym pass.invariant.1)
-    ∙ unmarked_gives_all a.places (said_before a.rows) pass.left m key (clear_open a.places (said_before a.rows) (is_in pass.left) m (is_left c) nobody)
+    ∙ unmarked_gives_all a.places (said_before a.rows) pass.left m key (clear_open a.places (said_before a.rows) (is_in pass.left) m (is_left pass.left c.loop-k.invariant.1 c.if-left-m.true) nobody)
 
 pub pass-preserved : goal.pass-preserved
 pass-preserved c =

@@ -16,8 +16,8 @@ returns c =
     let present = c.company_of-members in
     let rows = c.square-rows in
     let begins = c.begins_of-begins in record {
-      count = put.ensures.next ∙ count_right z c.requires.within b a.i present.result rows.result present.ensures rows.ensures begins.result begins.ensures;
-      numbers = put.ensures.bytes
+      count = put.ensures.count ∙ count_right z c.requires.within b a.i present.result rows.result present.ensures rows.ensures begins.result begins.ensures;
+      numbers = put.ensures.numbers
           ∙ ap (λ (order : List ℕ). buffer_after order a.numbers.now)
           (order_right z c.requires.within b a.i present.result rows.result present.ensures rows.ensures begins.result begins.ensures);
     }
