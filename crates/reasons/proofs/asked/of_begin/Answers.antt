@@ -4,7 +4,7 @@ use Prim.Native.Nat.{ℕ, ◌+◌}
 use mathlib.Core.Path.{refl, ◌∙◌, ap}
 use mathlib.Core.List.{List, [], ◌∷◌}
 use native.Mathlib.Omega.{arith}
-use borrow.Author.Tests.{not-true, not-false}
+use Rattle.rules.specs.declared.Size.{Size}
 use Rattle.rules.specs.Sizes.{log_bytes}
 use Rattle.rules.specs.Books.{Books, books_of, no_free, live_count}
 use Rattle.rules.specs.Numbers.{lent, full, Reason, ◌if◌, first_reason}
@@ -13,17 +13,13 @@ use Rattle.reasons.proofs.First.{is_first, is_next}
 use Rattle.reasons.proofs.Parts.{is_wrong, is_right, unsound_first, sound_next, live_at_most, live_seen}
 use Rattle.reasons.proofs.asked.of_begin.Goals as goal
 
--- the books that are asked about
-abbrev books : tie.Start → Books
-books s = books_of s.args.records s.args.places
-
 -- a free place and the log's room, with so many live ones
-abbrev places_left : tie.Start → ℕ → List Reason
-places_left s live = (full if no_free s.args.z (books s)) ∷ room_reason (s.args.records + 1) live ∷ []
+abbrev places_left : Size → Books → ℕ → List Reason
+places_left z b live = (full if no_free z b) ∷ room_reason (b.records + 1) live ∷ []
 
 -- the reasons after the books
-abbrev later : tie.Start → List Reason
-later s = places_left s (live_count s.args.z (books s) + 1)
+abbrev later : Size → Books → List Reason
+later z b = places_left z b (live_count z b + 1)
 
 pub returns-then-log-ne-LOG_BYTES : goal.returns-then-log-ne-LOG_BYTES
 unfolding begin_reasons
@@ -33,14 +29,14 @@ pub returns-then-not-are_sound : goal.returns-then-not-are_sound
 unfolding begin_reasons
 returns-then-not-are_sound c =
     is_next lent (is_right c.args.log log_bytes c.if-log-ne-LOG_BYTES.false) _ refl
-    (unsound_first c.args.z (books c) (later c) c.are_sound.ensures (not-true c.are_sound.result c.if-not-are_sound.true))
+    (unsound_first c.args.z (books_of c.args.records c.args.places) (later c.args.z (books_of c.args.records c.args.places)) c.are_sound.ensures c.if-not-are_sound.true)
 
 pub overflow_add-live_count_of : goal.overflow_add-live_count_of
-overflow_add-live_count_of c = omega (arith, c.live_count_of.ensures, live_at_most c.args.z (books c))
+overflow_add-live_count_of c = omega (arith, c.live_count_of.ensures, live_at_most c.args.z (books_of c.args.records c.args.places))
 
 pub returns : goal.returns
 unfolding begin_reasons
 returns c =
     is_next lent (is_right c.args.log log_bytes c.if-log-ne-LOG_BYTES.false) _ refl
-    (sound_next c.args.z (books c) (later c) c.are_sound.ensures (not-false c.are_sound.result c.if-not-are_sound.false)
-    (c.of_free.ensures ∙ ap (λ n. first_reason (places_left c (n + 1))) (live_seen c.args.z (books c) c.live_count_of.ensures)))
+    (sound_next c.args.z (books_of c.args.records c.args.places) (later c.args.z (books_of c.args.records c.args.places)) c.are_sound.ensures c.if-not-are_sound.false
+    (c.of_free.ensures ∙ ap (λ n. first_reason (places_left c.args.z (books_of c.args.records c.args.places) (n + 1))) (live_seen c.args.z (books_of c.args.records c.args.places) c.live_count_of.ensures)))

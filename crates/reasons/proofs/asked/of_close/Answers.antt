@@ -2,8 +2,10 @@
 use Prim.Native.Nat.{ℕ}
 use mathlib.Core.Path.{◌≡◌, refl}
 use mathlib.Core.List.{List, [], ◌∷◌}
-use borrow.Author.Tests.{not-true, not-false}
 use Rattle.basics.specs.Below.{any_below}
+use Rattle.rules.specs.declared.Size.{Size}
+use Rattle.rules.specs.Sound.{sound}
+use mathlib.Core.Bool.{Bool, true}
 use Rattle.rules.specs.Sizes.{log_bytes}
 use Rattle.rules.specs.Books.{Books, books_of, place_at, is_live}
 use Rattle.rules.specs.Numbers.{lent, busy, Reason, ◌if◌, first_reason}
@@ -12,21 +14,15 @@ use Rattle.reasons.proofs.First.{is_first, is_next}
 use Rattle.reasons.proofs.Parts.{is_wrong, is_right, unsound_first, sound_next, busy_first, busy_last}
 use Rattle.reasons.proofs.asked.of_close.Goals as goal
 
--- the books that are asked about
-abbrev books : tie.Start → Books
-books s = books_of s.args.records s.args.places
-
 -- the reason after the books
-abbrev later : tie.Start → List Reason
-later s = (busy if any_below (λ i. is_live (place_at (books s) i)) s.args.z.places) ∷ []
+abbrev later : Size → Books → List Reason
+later z b = (busy if any_below (λ i. is_live (place_at b i)) z.places) ∷ []
 
 -- the log's length and the books pass
-books_pass : (c : tie.Else2) {n : ℕ} → let s = c.before.before.before in n ≡ first_reason (later s) → n ≡ first_reason (close_reasons s.args.z s.args.log (books s))
+books_pass : (z : Size) (log : ℕ) (b : Books) {answer : Bool} {n : ℕ} → log ≡ log_bytes → answer ≡ sound z b → answer ≡ true → n ≡ first_reason (later z b)
+    → n ≡ first_reason (close_reasons z log b)
 unfolding close_reasons
-books_pass c h =
-    let s = c.before.before.before in
-    is_next lent (is_right s.args.log log_bytes c.before.before.if1.false) _ refl
-    (sound_next s.args.z (books s) (later s) c.before.are_sound.ensures (not-false c.before.are_sound.result c.if2.false) h)
+books_pass z log b right says passed h = is_next lent (is_right log log_bytes right) _ refl (sound_next z b (later z b) says passed h)
 
 pub returns-then-log-ne-LOG_BYTES : goal.returns-then-log-ne-LOG_BYTES
 unfolding close_reasons
@@ -36,12 +32,12 @@ pub returns-then-not-are_sound : goal.returns-then-not-are_sound
 unfolding close_reasons
 returns-then-not-are_sound c =
     is_next lent (is_right c.args.log log_bytes c.if-log-ne-LOG_BYTES.false) _ refl
-    (unsound_first c.args.z (books c) (later c) c.are_sound.ensures (not-true c.are_sound.result c.if-not-are_sound.true))
+    (unsound_first c.args.z (books_of c.args.records c.args.places) (later c.args.z (books_of c.args.records c.args.places)) c.are_sound.ensures c.if-not-are_sound.true)
 
 pub returns-then-live_count_of-ne0 : goal.returns-then-live_count_of-ne0
 returns-then-live_count_of-ne0 c =
-    books_pass c (busy_first c.args.z (books c) c.live_count_of.ensures c.if-live_count_of-ne0.true)
+    books_pass c.args.z c.args.log (books_of c.args.records c.args.places) c.if-log-ne-LOG_BYTES.false c.are_sound.ensures c.if-not-are_sound.false (busy_first c.args.z (books_of c.args.records c.args.places) c.live_count_of.ensures c.if-live_count_of-ne0.true)
 
 pub returns-else-live_count_of-ne0 : goal.returns-else-live_count_of-ne0
 returns-else-live_count_of-ne0 c =
-    books_pass c (busy_last c.args.z (books c) c.live_count_of.ensures c.if-live_count_of-ne0.false)
+    books_pass c.args.z c.args.log (books_of c.args.records c.args.places) c.if-log-ne-LOG_BYTES.false c.are_sound.ensures c.if-not-are_sound.false (busy_last c.args.z (books_of c.args.records c.args.places) c.live_count_of.ensures c.if-live_count_of-ne0.false)

@@ -3,45 +3,34 @@
 use Prim.Native.Nat.{ℕ}
 use mathlib.Core.Path.{◌≡◌, refl, ap, ◌∙◌}
 use mathlib.Core.List.{List, [], ◌∷◌}
+use Rattle.rules.specs.declared.Size.{Size}
 use Rattle.rules.specs.Sizes.{order_numbers}
 use Rattle.rules.specs.Books.{Books, books_of}
 use Rattle.rules.specs.Handles.{place_of, orders}
 use Rattle.rules.specs.Judging.{has_cycle}
-use Rattle.rules.specs.Numbers.{lent, unsound, Reason, ◌if◌, first_reason}
-use Rattle.rules.specs.Steps.{order_reasons}
+use Rattle.rules.specs.Numbers.{granted, lent, unsound, Reason, ◌if◌, first_reason}
+use Rattle.rules.specs.Steps.{soundness_reason, handle_reasons, order_reasons}
 use Rattle.rules.proofs.Judging.GivenOrders.{cycle_by_places}
 use Rattle.place.specs.Rows.{caller}
 use Rattle.reasons.proofs.First.{is_first, is_next, is_last, run_first, run_next}
 use Rattle.reasons.proofs.Parts.{is_wrong, is_right, handle_run, handle_numbered, handle_named}
 use Rattle.reasons.proofs.asked.of_order.Goals as goal
 
--- the books that are asked about
-abbrev books : tie.Start → Books
-books s = books_of s.args.records s.args.places
+module _ (z : Size) (b : Books) (h : ℕ) where
+  -- the last reason
+  abbrev cycle : List Reason
+  cycle = (unsound if has_cycle z b (place_of h)) ∷ []
 
--- the last reason
-abbrev cycle : tie.Start → List Reason
-cycle s = (unsound if has_cycle s.args.z (books s) (place_of s.args.handle)) ∷ []
+  -- what is found of books and handle, for an order
+  found : {n : ℕ} → n ≡ first_reason (soundness_reason z b ∷ handle_reasons z (caller 4) b h) → n ≡ first_reason (handle_run z b orders h)
+  unfolding caller
+  found e = e
 
--- what is found of books and handle, for an order
-found : (c : tie.After-of-handle) → let s = c.before.before.before in c.of_handle.result ≡ first_reason (handle_run s.args.z (books s) orders s.args.handle)
-unfolding caller
-found c = c.of_handle.ensures
-
--- length, books and handle pass
-handle_passes : (c : tie.Else2) {n : ℕ} → let s = c.before.before.before.before in n ≡ first_reason (cycle s) → n ≡ first_reason (order_reasons s.args.z s.args.numbers (books s) s.args.handle)
-unfolding order_reasons
-handle_passes c h =
-    let s = c.before.before.before.before in
-    is_next lent (is_right s.args.numbers (order_numbers s.args.z) c.before.before.if1.false) _ refl
-    (run_next (handle_run s.args.z (books s) orders s.args.handle) (cycle s) (handle_numbered s.args.z (books s) orders s.args.handle) (found c.before) c.if2.false h)
-
--- the cycle is asked for
-cycle_asked : (c : tie.After-is-conflict) → let s = c.before.before.before.before.before.before in c.is_conflict.result ≡ has_cycle s.args.z (books s) (place_of s.args.handle)
-cycle_asked c =
-    let named = c.before in
-    let s = named.before.before.before.before.before in
-    c.is_conflict.ensures ∙ cycle_by_places s.args.z (books s) named.place_of.result ∙ ap (has_cycle s.args.z (books s)) named.place_of.ensures
+  -- length, books and handle pass
+  handle_passes : (numbers : ℕ) {m n : ℕ} → numbers ≡ order_numbers z → m ≡ first_reason (handle_run z b orders h) → m ≡ granted → n ≡ first_reason cycle
+      → n ≡ first_reason (order_reasons z numbers b h)
+  unfolding order_reasons
+  handle_passes numbers right e none last = is_next lent (is_right numbers (order_numbers z) right) _ refl (run_next (handle_run z b orders h) cycle (handle_numbered z b orders h) e none last)
 
 pub returns-then-numbers-z : goal.returns-then-numbers-z
 unfolding order_reasons
@@ -51,17 +40,17 @@ pub returns-then-number-ne-GRANTED : goal.returns-then-number-ne-GRANTED
 unfolding order_reasons
 returns-then-number-ne-GRANTED c =
     is_next lent (is_right c.args.numbers (order_numbers c.args.z) c.if-numbers-z.false) _ refl
-    (run_first (handle_run c.args.z (books c) orders c.args.handle) (cycle c) (found c) c.if-number-ne-GRANTED.true)
+    (run_first (handle_run c.args.z (books_of c.args.records c.args.places) orders c.args.handle) (cycle c.args.z (books_of c.args.records c.args.places) c.args.handle) (found c.args.z (books_of c.args.records c.args.places) c.args.handle c.of_handle-number.ensures) c.if-number-ne-GRANTED.true)
 
 pub is_conflict-requires : goal.is_conflict-requires
 is_conflict-requires c =
     record {
       within = c.requires;
-      i_lt_places = rw c.place_of.ensures (handle_named c.args.z (books c) orders c.args.handle (found c) c.if-number-ne-GRANTED.false);
+      i_lt_places = rw c.place_of.ensures (handle_named c.args.z (books_of c.args.records c.args.places) orders c.args.handle (found c.args.z (books_of c.args.records c.args.places) c.args.handle c.of_handle-number.ensures) c.if-number-ne-GRANTED.false);
     }
 
 pub returns-then-is_conflict : goal.returns-then-is_conflict
-returns-then-is_conflict c = handle_passes c (is_first unsound (cycle_asked c) [] c.if-is_conflict.true)
+returns-then-is_conflict c = handle_passes c.args.z (books_of c.args.records c.args.places) c.args.handle c.args.numbers c.if-numbers-z.false (found c.args.z (books_of c.args.records c.args.places) c.args.handle c.of_handle-number.ensures) c.if-number-ne-GRANTED.false (is_first unsound (c.is_conflict.ensures ∙ cycle_by_places c.args.z (books_of c.args.records c.args.places) c.place_of.result ∙ ap (has_cycle c.args.z (books_of c.args.records c.args.places)) c.place_of.ensures) [] c.if-is_conflict.true)
 
 pub returns-else-is_conflict : goal.returns-else-is_conflict
-returns-else-is_conflict c = handle_passes c (is_last unsound (cycle_asked c) c.if-is_conflict.false)
+returns-else-is_conflict c = handle_passes c.args.z (books_of c.args.records c.args.places) c.args.handle c.args.numbers c.if-numbers-z.false (found c.args.z (books_of c.args.records c.args.places) c.args.handle c.of_handle-number.ensures) c.if-number-ne-GRANTED.false (is_last unsound (c.is_conflict.ensures ∙ cycle_by_places c.args.z (books_of c.args.records c.args.places) c.place_of.result ∙ ap (has_cycle c.args.z (books_of c.args.records c.args.places)) c.place_of.ensures) c.if-is_conflict.false)

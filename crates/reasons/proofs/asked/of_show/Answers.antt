@@ -1,12 +1,12 @@
 -- `reasons::asked::of_show` asks for the read's own number, two lengths, and books, handle and cell.
 -- Rests on the contracts of `table_bytes`, `drafts_bytes`, `either_wrong` and `of_handle_and_cell`.
-use mathlib.Core.Path.{◌≡◌, refl}
-use mathlib.Core.Bool.{◌||◌}
+use mathlib.Core.Path.{refl}
 use mathlib.Core.List.{List}
-use Rattle.rules.specs.Sizes.{table_bytes, drafts_bytes}
-use Rattle.rules.specs.Books.{books_of}
+use Prim.Native.Nat.{ℕ}
+use Rattle.rules.specs.declared.Size.{Size}
+use Rattle.rules.specs.Books.{Books, books_of}
 use Rattle.rules.specs.Handles.{reads}
-use Rattle.rules.specs.Numbers.{lent, wrong, Reason}
+use Rattle.rules.specs.Numbers.{lent, Reason}
 use Rattle.rules.specs.Steps.{show_reasons, handle_cell_reasons}
 use Rattle.place.specs.Rows.{caller}
 use Rattle.reasons.proofs.First.{is_first, is_next}
@@ -14,12 +14,8 @@ use Rattle.reasons.proofs.Parts.{is_wrong, is_right}
 use Rattle.reasons.proofs.asked.of_show.Goals as goal
 
 -- the reasons after the lengths
-abbrev later : tie.Start → List Reason
-later s = handle_cell_reasons s.args.z reads (books_of s.args.records s.args.places) s.args.handle s.args.cell
-
--- the two lengths are asked for
-lengths : (c : tie.After-either-wrong) → let a = c.before.before.before.before.args in c.either_wrong.result ≡ wrong a.table (table_bytes a.z) || wrong a.drafts (drafts_bytes a.z)
-lengths c = rw (c.before.before.table_bytes.ensures, c.before.drafts_bytes.ensures) at c.either_wrong.ensures
+abbrev later : Size → Books → ℕ → ℕ → List Reason
+later z b handle cell = handle_cell_reasons z reads b handle cell
 
 pub returns-then-given-ne-GRANTED : goal.returns-then-given-ne-GRANTED
 unfolding show_reasons
@@ -28,9 +24,9 @@ returns-then-given-ne-GRANTED c = let given = c.args.given in is_first given (is
 pub returns-then-either_wrong : goal.returns-then-either_wrong
 unfolding show_reasons
 returns-then-either_wrong c =
-    is_next c.args.given (is_right c.args.given 0 c.if-given-ne-GRANTED.false) _ refl (is_first lent (lengths c) (later c) c.if-either_wrong.true)
+    is_next c.args.given (is_right c.args.given 0 c.if-given-ne-GRANTED.false) _ refl (is_first lent (rw (c.table_bytes.ensures, c.drafts_bytes.ensures) at c.either_wrong.ensures) (later c.args.z (books_of c.args.records c.args.places) c.args.handle c.args.cell) c.if-either_wrong.true)
 
 pub returns : goal.returns
 unfolding show_reasons caller
 returns c =
-    is_next c.args.given (is_right c.args.given 0 c.if-given-ne-GRANTED.false) _ refl (is_next lent (lengths c) (later c) c.if-either_wrong.false c.of_handle_and_cell.ensures)
+    is_next c.args.given (is_right c.args.given 0 c.if-given-ne-GRANTED.false) _ refl (is_next lent (rw (c.table_bytes.ensures, c.drafts_bytes.ensures) at c.either_wrong.ensures) (later c.args.z (books_of c.args.records c.args.places) c.args.handle c.args.cell) c.if-either_wrong.false c.of_handle_and_cell.ensures)

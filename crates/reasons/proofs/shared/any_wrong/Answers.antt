@@ -1,16 +1,12 @@
 -- `reasons::shared::any_wrong` is one of three tests of a length. Rests on the contract of `either_wrong`.
 use mathlib.Core.Path.{◌∙◌}
-use mathlib.Core.Bool.{Bool, ◌||◌}
+use mathlib.Core.Bool.{◌||◌}
 use Rattle.rules.specs.Numbers.{wrong}
 use Rattle.reasons.proofs.Parts.{first_wrong, first_right}
 use Rattle.reasons.proofs.shared.any_wrong.Goals as goal
 
--- the second and the third test
-abbrev others : tie.Start → Bool
-others s = wrong s.args.b s.args.y || wrong s.args.c s.args.w
-
 pub returns-then-a-x : goal.returns-then-a-x
-returns-then-a-x c = first_wrong c.args.a c.args.x (others c) c.if-a-x.true
+returns-then-a-x c = first_wrong c.args.a c.args.x (wrong c.args.b c.args.y || wrong c.args.c c.args.w) c.if-a-x.true
 
 pub returns-else-a-x : goal.returns-else-a-x
-returns-else-a-x c = c.either_wrong.ensures ∙ first_right c.args.a c.args.x (others c) c.if-a-x.false
+returns-else-a-x c = c.either_wrong.ensures ∙ first_right c.args.a c.args.x (wrong c.args.b c.args.y || wrong c.args.c c.args.w) c.if-a-x.false
