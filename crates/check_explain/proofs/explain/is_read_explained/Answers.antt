@@ -10,7 +10,10 @@ returns-then-is_used_later c = rw (sym c.is_used_later.ensures ∙ c.if-is_used_
 
 pub is_from-requires : goal.is_from-requires
 is_from-requires c =
-    omega (arith, c.requires, c.requires.past.0 c.args.cell)
+    record {
+      le_n = omega (arith, c.requires.past c.args.cell);
+      cell_bytes_in_bounds = omega arith;
+    }
 
 pub returns : goal.returns
 unfolding read_explained
