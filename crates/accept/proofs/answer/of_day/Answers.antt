@@ -2,7 +2,6 @@
 use mathlib.Core.Path.{refl, ◌∙◌, ap}
 use native.Mathlib.Omega.{arith}
 use lib.ListN.{length, take, drop}
-use borrow.Author.Rules.{rules}
 use Rattle.rules.specs.Sizes.{yard}
 use Rattle.rules.specs.Checker.{checked}
 use Rattle.texts.proofs.Putting.{tail_is}
