@@ -9,6 +9,7 @@ use rules::statuses::COMMITTED;
 use rules::{Place, Size};
 
 // The record of the place's last judged read that was granted, 0 for none.
+#[tactic(auto, using(basics::proofs::Below::greatest_taken, basics::proofs::Below::greatest_kept))]
 pub fn latest_read(p: Place, z: Size) -> u16
     requires { Within z }
     ensures { result ≡ latest_read z p }
@@ -38,6 +39,7 @@ pub fn moment_of(p: Place, z: Size) -> u16
 }
 
 // Who is in the company of the transaction at place i: itself and every transaction committed before its moment.
+#[tactic(auto, using(basics::proofs::Filled::filled_set, basics::proofs::Filled::filled_passed, crate::proofs::Moments::company_itself, crate::proofs::Moments::company_other))]
 pub fn company_of(places: [Place; 32], i: usize, z: Size) -> [bool; 32]
     requires within { Within z }
     requires i_lt_width { i < width }

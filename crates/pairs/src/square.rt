@@ -8,6 +8,7 @@ use crate::pair;
 use rules::{Place, Size};
 
 // All rows of those present. The pairs are asked here, and in no function of a row's own, so that the places are not copied for each row.
+#[tactic(auto, using(basics::proofs::Filled::filled_set, basics::proofs::Filled::filled_passed, crate::proofs::Squares::stands_other, crate::proofs::Squares::stands_itself))]
 pub fn square(places: [Place; 32], present: [bool; 32], z: Size) -> [[bool; 32]; 32]
     requires { Within z }
     ensures { result ≡ square_of z (of_places places) present }

@@ -88,6 +88,7 @@ pub fn of_handle_and_cell(
 }
 
 // 7: so many records after the call and live ones after it pass 4,000.
+#[tactic(auto, using(crate::proofs::Parts::room_first, crate::proofs::Parts::room_last))]
 pub fn of_room(records: u32, live: u32) -> u8
     ensures { result ≡ first_reason (room_reason records live ∷ []) }
 {

@@ -10,6 +10,7 @@ use rules::{Place, Size};
 use sound_cells::cells;
 
 // Zero in all but the turn.
+#[tactic(auto, unfolding(rules::specs::Sound::is_clear))]
 fn is_place_clear(p: Place, z: Size) -> bool
     requires { Within z }
     ensures { result ≡ is_clear z p }
@@ -18,6 +19,7 @@ fn is_place_clear(p: Place, z: Size) -> bool
 }
 
 // A held place has a begin record, from 1 to the record count, and its reads are sound.
+#[tactic(auto, unfolding(rules::specs::Sound::held_sound))]
 fn is_held_sound(p: Place, records: u16, z: Size) -> bool
     requires { Within z }
     ensures { result ≡ held_sound z records p }

@@ -22,6 +22,7 @@ pub fn lowest_free_of(places: [Place; 32], z: Size) -> usize
 }
 
 // How many transactions are live.
+#[tactic(auto, using(basics::proofs::Below::count_passes, basics::proofs::Below::count_skips))]
 pub fn live_count_of(places: [Place; 32], z: Size) -> u32
     requires { Within z }
     ensures { result ≡ live_count z (of_places places) }

@@ -4,23 +4,12 @@ use mathlib.Core.Path.{sym, ◌∙◌, ap}
 use native.Mathlib.Nat.{le_antisymm}
 use native.Mathlib.Omega.{arith}
 use Rattle.basics.specs.Below.{greatest_below}
-use Rattle.basics.proofs.Below.{greatest_none, greatest_taken, greatest_kept}
+use Rattle.basics.proofs.Below.{greatest_none}
 use Rattle.rules.specs.Judging.{latest_read}
 use Rattle.pairs.proofs.company.latest_read.Goals as goal
-use Rattle.pairs.proofs.company.latest_read.Goals.{then-latest-last, else-latest-last}
 
 pub loop-c-init : goal.loop-c-init
 loop-c-init c = (omega arith, sym (greatest_none _))
-
-pub loop-c-preserved : goal.loop-c-preserved
-loop-c-preserved c =
-    let so_far = c.loop-c.invariant.1 in (
-      omega arith,
-      elim c.if-latest-last.branch [
-        | then-latest-last w ↦ greatest_taken _ _ _ _ so_far w.if-latest-last.true w.latest-is
-        | else-latest-last w ↦ greatest_kept _ _ _ _ so_far w.if-latest-last.false w.latest-is
-      ],
-    )
 
 pub returns : goal.returns
 unfolding latest_read
