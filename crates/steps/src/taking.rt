@@ -13,6 +13,7 @@ use rules::numbers::GRANTED;
 use rules::{Place, Size};
 
 // Begin takes the lowest free place and answers the handle.
+#[tactic(auto, using(crate::proofs::Either::log_stays, crate::proofs::Known::begin_known), unfolding(rules::specs::Steps::begin_rule, rules::specs::State::unless_refused, rules::specs::State::refused))]
 pub fn begin(places: [Place; 32], records: u16, z: Size, log: &mut [u8]) -> Step
     requires { Within z }
     ensures step { result ≡ step_of (begin_rule z (length log.old) (state_of (books_of records places) [] [])) }
