@@ -7,9 +7,9 @@ root=$PWD
 scratch=$(mktemp -d)
 trap 'rm -rf "$scratch"' EXIT
 
-[ "$(uname -m)" = x86_64 ] || { printf 'the programs are for x86-64: elsewhere rt check runs them under an emulator\n' >&2; exit 1; }
+[ "$(uname -m)" = x86_64 ] || { printf 'the programs are for x86-64: elsewhere rt ci runs them under an emulator\n' >&2; exit 1; }
 printf 'Building play, report and accept: all that they are made of is proved first.\n'
-rt check play report accept > "$scratch/log" 2>&1 || { tail -n 20 "$scratch/log" >&2; exit 1; }
+tools/build.sh play report accept > "$scratch/log" 2>&1 || { tail -n 20 "$scratch/log" >&2; exit 1; }
 
 # calls SCRIPT: its lines that are calls, the looks at the table and the log left out
 calls() { grep -E '^[a-z]' "$1" | grep -Ev '^(table|log)$'; }

@@ -1,6 +1,6 @@
 /* The order checker of Nogturshan, for programs in C.
  *
- * Link with target/staticlib/libchecker.a, which `rt staticlib checker` writes, for x86-64 Linux.
+ * Link with target/staticlib/libchecker.a, which `tools/build.sh checker` writes, for x86-64 Linux.
  * The checker is proved: for every input it ends and answers the number that the rules give ("Order checker" in document 01). */
 #ifndef NOGTURSHAN_H
 #define NOGTURSHAN_H

@@ -17,7 +17,7 @@ fi
 scratch=$(mktemp -d)
 trap 'rm -rf "$scratch"' EXIT
 
-rt staticlib checker > "$scratch/log" 2>&1 || { cat "$scratch/log" >&2; exit 1; }
+tools/build.sh checker > "$scratch/log" 2>&1 || { cat "$scratch/log" >&2; exit 1; }
 for source in examples/desk.c tests/desk_odd.c; do
   "$compile" -std=c11 -Wall -Wextra -Werror -O2 -Iinclude -o "$scratch/$(basename "$source" .c)" "$source" target/staticlib/libchecker.a
 done

@@ -10,7 +10,7 @@ if [ "$(uname -m)" != x86_64 ]; then
   exit 0
 fi
 for built in bin/play bin/report bin/accept staticlib/libchecker.a; do
-  [ -e "target/$built" ] || { printf 'no target/%s: rt check play report accept && rt staticlib checker\n' "$built" >&2; exit 1; }
+  [ -e "target/$built" ] || { printf 'no target/%s: tools/build.sh play report accept checker\n' "$built" >&2; exit 1; }
 done
 
 mkdir -p target/tests

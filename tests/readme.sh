@@ -7,16 +7,17 @@ cd "$(dirname "${BASH_SOURCE[0]}")/.."
 scratch=$(mktemp -d)
 trap 'rm -rf "$scratch"' EXIT
 mkdir -p "$scratch/copy/target"
-cp -R README.md crates crates.txt examples include "$scratch/copy"
-for built in bin rlib stamp; do
-  [ ! -e "target/$built" ] || cp -R "target/$built" "$scratch/copy/target"
+cp -Rp README.md crates.txt examples include tools "$scratch/copy"
+tar -cf - --exclude='crates/*/out' crates | tar -xpf - -C "$scratch/copy"
+for built in bin staticlib; do
+  [ ! -e "target/$built" ] || cp -Rp "target/$built" "$scratch/copy/target"
 done
 cd "$scratch/copy"
 
 failed=0
 while IFS= read -r line; do
   case $line in
-    'rt '* | target/* | 'cc '* | examples/*)
+    'rt '* | target/* | 'cc '* | examples/* | tools/*)
       status=0
       bash -euo pipefail -c "$line" < /dev/null > "$scratch/said" 2> "$scratch/stderr" || status=$?
       sed 's/ *$//' "$scratch/said" >> "$scratch/all"
@@ -33,7 +34,7 @@ done < <(sed -n 's/^    //p' README.md)
 
 while IFS= read -r line; do
   case $line in
-    'rt '* | target/* | 'cc '* | examples/* | tests/* | bench/* | .ci/*) ;;
+    'rt '* | target/* | 'cc '* | examples/* | tools/* | tests/* | bench/* | .ci/*) ;;
     *)
       grep -Fxq -- "$line" "$scratch/all" || { printf 'README.md shows a line that nothing prints: %s\n' "$line" >&2; failed=1; }
       ;;

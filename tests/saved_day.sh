@@ -1,5 +1,5 @@
 #!/usr/bin/env bash
-# Case A played, saved, reported and checked, by the programs as they are built. From any directory, after `rt check play report accept`.
+# Case A played, saved, reported and checked, by the programs as they are built. From any directory, after `tools/build.sh play report accept`.
 set -euo pipefail
 cd "$(dirname "${BASH_SOURCE[0]}")/.."
 root=$PWD

@@ -1,9 +1,9 @@
 -- Laws of the words that are given as numbers, of the numbers that are kept, of a day that is cut short, and of the line that is answered.
 -- Assumes nothing.
 use Prim.Native.Nat.{ℕ, ◌+◌, ◌≤◌, ◌<◌}
-use mathlib.Core.Path.{◌≡◌, ap}
+use mathlib.Core.Path.{◌≡◌, refl, ap}
 use mathlib.Core.Bool.{false}
-use mathlib.Core.List.{List}
+use mathlib.Core.List.{List, [], ◌∷◌}
 use native.Mathlib.Omega.{arith}
 use lib.ListN.{length, take, set}
 use lib.Seq.{take_all}
@@ -15,6 +15,10 @@ use Rattle.rules.specs.Numbers.{lent, first_reason}
 use Rattle.rules.specs.Checker.{checked}
 use Rattle.rules.specs.Report.{refused_line}
 use Rattle.script.specs.Numeral.{no_number, number_of}
+use Rattle.texts.specs.Placed.{with_text, after_text}
+use Rattle.texts.specs.Said.{joined}
+use Rattle.texts.proofs.Fitting.{all_fit}
+use Rattle.texts.proofs.Saying.{one_placed}
 use Rattle.accept.specs.declared.list.Numbers.{Numbers}
 use Rattle.accept.specs.Words.{word_number, most_kept, with_number, answer_line}
 
@@ -61,11 +65,11 @@ day_short z input log begin order h =
 
 -- ---- the line
 
-module _ (number : ℕ) where
-  pub accepted_line : number ≡ 0 → text "accepted\n" ≡ answer_line number
-  unfolding answer_line
-  accepted_line e = rw (eq-eqb number 0 e)
+-- `accepted` is put into a buffer that has room for it
+pub accepted_line : (out : List ℕ) (number : ℕ) → number ≡ 0 → 16 ≤ length out → take (after_text (length out) 0 9) (with_text out 0 (text "accepted\n")) ≡ answer_line number
+unfolding text answer_line joined
+accepted_line out number e h = rw (eq-eqb number 0 e) (all_fit out (text "accepted\n" ∷ []) (one_placed out 0 (text "accepted\n") refl refl) (omega arith))
 
-  pub refused_answer : (number ≡ 0 → ⊥) → refused_line number ≡ answer_line number
-  unfolding answer_line
-  refused_answer h = rw (ne_eqb number 0 h)
+pub refused_answer : (number : ℕ) → (number ≡ 0 → ⊥) → refused_line number ≡ answer_line number
+unfolding answer_line
+refused_answer number h = rw (ne_eqb number 0 h)

@@ -35,6 +35,7 @@ pub fn checked(input: &[u8], begin: u32, numbers: Numbers) -> u8
 }
 
 // `accepted`, or `refused` and the number, and the end of the line into the front of a buffer, and how many bytes they are.
+#[tactic(auto, using(crate::proofs::Listing::accepted_line, crate::proofs::Listing::refused_answer), unfolding(basics::specs::Text::text))]
 pub fn line(out: &mut [u8], number: u8) -> usize
     requires { 16 ≤ length out.old }
     ensures { take result out.new ≡ answer_line number }

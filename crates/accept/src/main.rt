@@ -6,28 +6,27 @@ mod list;
 
 ghost use Rattle.accept.specs.Words.{Roomy};
 
-use libc::{STDIN_FILENO, STDOUT_FILENO};
 use list::Numbers;
 use rules::numbers::LENT;
 use rules::sizes;
 use texts::buffer;
 
 // The number that an argument names; none for an argument that is missing or has more than 4,096 bytes.
-fn number_at(i: usize, most: u64) -> u64 {
-    let mut word = io::buffer();
-    let n = os::arg(i, &mut word);
+fn number_at(rt: &HostRuntime, i: usize, most: u64) -> u64 {
+    let mut word = [0u8; 4096];
+    let n = console::argument(rt, i, &mut word);
     list::number_of(&word[..n], most)
 }
 
 // The numbers of the order: every argument from the second on.
-fn order() -> Numbers
+fn order(rt: &HostRuntime) -> Numbers
     ensures { Roomy result }
 {
-    let count = os::arg_count();
+    let count = console::argument_count(rt);
     let mut numbers = list::none();
     let mut i = 2;
     while i < count {
-        numbers = list::with(numbers, number_at(i, 65535));
+        numbers = list::with(numbers, number_at(rt, i, 65535));
         i += 1;
     }
     numbers
@@ -35,29 +34,29 @@ fn order() -> Numbers
 
 // The checker's number for what is read from standard input. A saved day has at most 256 + 64,016 bytes. One byte more is read, so that a
 // longer one is seen to be badly laid out.
-fn ask(begin: u32, numbers: Numbers) -> u8
+fn ask(rt: &HostRuntime, begin: u32, numbers: Numbers) -> u8
     requires { Roomy numbers }
 {
     let mut input = [0u8; sizes::TABLE_BYTES + sizes::LOG_BYTES + 1];
-    let n = io::read_full(STDIN_FILENO, &mut input);
+    let n = console::read_full(rt, &mut input);
     answer::checked(&input[..n], begin, numbers)
 }
 
 // The number to answer: 1, before all else, if a word is no number.
-fn decide() -> u8 {
-    let begin = number_at(1, 4294967295);
-    let numbers = order();
+fn decide(rt: &HostRuntime) -> u8 {
+    let begin = number_at(rt, 1, 4294967295);
+    let numbers = order(rt);
     if begin > 4294967295 {
         return LENT;
     }
     if !numbers.right {
         return LENT;
     }
-    ask(begin as u32, numbers)
+    ask(rt, begin as u32, numbers)
 }
 
-fn main() {
+fn main(rt: HostRuntime) {
     let mut out = [0u8; 16];
-    let end = answer::line(&mut out, decide());
-    io::write_all(STDOUT_FILENO, buffer::front(&out, end));
+    let end = answer::line(&mut out, decide(&rt));
+    console::write(&rt, buffer::front(&out, end));
 }

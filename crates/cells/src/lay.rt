@@ -7,6 +7,7 @@ use crate::cell;
 use rules::Size;
 
 // The written cells take the values of the drafts at place i; the others stay.
+#[tactic(auto, using(basics::proofs::Below::run_none, basics::proofs::Below::run_more), unfolding(rules::specs::Cells::laid_over),)]
 pub fn lay(table: &mut [u8], drafts: &[u8], written: [bool; 32], i: usize, z: Size)
     requires within { Within z }
     requires i_lt_places { (i < z.places) × ((length table.old ≡ table_bytes z) × (length drafts.now ≡ drafts_bytes z)) }

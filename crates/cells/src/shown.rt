@@ -20,6 +20,7 @@ pub fn part_at<'a>(from: &'a [u8], cell: usize) -> &'a [u8]
 }
 
 // The draft of the cell at place i if the cell is written there, else the table's cell.
+#[tactic(auto, using(crate::proofs::Room::draft_inside), unfolding(rules::specs::State::shown_bytes, rules::specs::State::shown_at),)]
 pub fn chosen<'a>(
     drafts: &'a [u8],
     table: &'a [u8],

@@ -11,6 +11,7 @@ use log_bytes::kinds;
 use rules::{Record, Size, sizes};
 
 // A judged read: nobody listed later has committed the cell, and the value is the table's.
+#[tactic(auto, unfolding(crate::specs::Explained::read_explained))]
 fn is_read_explained(
     from: Replay,
     wrote: &[u16; 1024],

@@ -88,6 +88,7 @@ fn note_write(wrote: &mut [u16; 1024], kind: u8, mark: usize, n: u16)
 }
 
 // Each cell that the listed transaction wrote has its value in the table from now on.
+#[tactic(auto, using(crate::proofs::Laid::written_more, crate::proofs::Laid::unwritten_more))]
 fn lay(table: &mut [u16; 32], wrote: &[u16; 1024], at: usize, z: Size)
     requires within { Within z }
     requires at_lt_width { at < width }

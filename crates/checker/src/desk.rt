@@ -1,4 +1,4 @@
-// The checker's entry for the duty desk's program in C: numbers and byte slices, the list as little-endian pairs of bytes.
+// The checker for the duty desk's program in C: numbers and byte slices, the list as little-endian pairs of bytes. `checker_c` exports it.
 ghost use Rattle.std.specs.Prelude.{◌≡◌, ◌*◌, ◌≤◌, length, take};
 ghost use Rattle.rules.specs.Sizes.{yard};
 ghost use Rattle.checker.specs.Desk.{pairs_of, checked_pairs};
@@ -23,8 +23,7 @@ fn unpack(pairs: &[u8], into: &mut [u16])
 }
 
 // The checker's number; 1 if the list's bytes are odd.
-#[unsafe(no_mangle)]
-pub extern "C" fn nogturshan_check(opening: &[u8], log: &[u8], begin: u32, list: &[u8]) -> u8
+pub fn nogturshan_check(opening: &[u8], log: &[u8], begin: u32, list: &[u8]) -> u8
     ensures { result ≡ checked_pairs yard opening.now log.now begin list.now }
 {
     if list.len() % 2 != 0 {

@@ -42,7 +42,8 @@ fn judged_read(
         change::mark_read(p, c, records + 1),
     );
     let with_read = as_granted.places;
-    if verdict::is_conflict(with_read, i, z) {
+    let conflict = verdict::is_conflict(with_read, i, z);
+    if conflict {
         return held::turn_back(places, records, READ_CONFLICT, i, c, log);
     }
     let value = cell::value_at(table, c);
@@ -103,7 +104,8 @@ pub fn commit(
         change::commit(p, records + 1),
     );
     let with_commit = as_granted.places;
-    if verdict::is_conflict(with_commit, i, z) {
+    let conflict = verdict::is_conflict(with_commit, i, z);
+    if conflict {
         return held::turn_back(places, records, COMMIT_CONFLICT, i, 0, log);
     }
     let written = p.written;

@@ -11,10 +11,6 @@ use Rattle.machine.specs.declared.call.Kind.TheVariants.{Open}
 use Rattle.machine.specs.Promises.{call_outcome, LeavesAll}
 use Rattle.making.specs.Made.{kind_for}
 
--- a number that is at least n and is not n is more
-pub past : (n : ℕ) {k : ℕ} → n ≤ k → (k ≡ n → ⊥) → suc n ≤ k
-past n h other = omega arith
-
 -- the kinds from 8 on
 pub open_from_eight : (k : ℕ) → 8 ≤ k → Open ≡ kind_for k
 unfolding kind_for

@@ -3,7 +3,6 @@
 // Prints the sum of the numbers given back (or how many tests were true), the last answer, and the records of the last books.
 #![tactic(auto)]
 
-use libc::{STDIN_FILENO, STDOUT_FILENO};
 use machine::books::Books;
 use machine::call;
 use machine::call::Call;
@@ -212,9 +211,9 @@ fn measure(kind: u8, rounds: u64, script: &[u8], last: usize) -> Told {
 }
 
 // What the first argument asks for.
-fn asked() -> u8 {
-    let mut word = io::buffer();
-    let n = os::arg(1, &mut word);
+fn asked(rt: &HostRuntime) -> u8 {
+    let mut word = [0u8; 4096];
+    let n = console::argument(rt, 1, &mut word);
     if check::same(&word[..n], b"call") {
         return CALL;
     }
@@ -225,9 +224,9 @@ fn asked() -> u8 {
 }
 
 // How many rounds the second argument asks for; none for an argument that is missing or no number.
-fn how_many() -> u64 {
-    let mut word = io::buffer();
-    let n = os::arg(2, &mut word);
+fn how_many(rt: &HostRuntime) -> u64 {
+    let mut word = [0u8; 4096];
+    let n = console::argument(rt, 2, &mut word);
     if n == 0 {
         return numbers::NO_NUMBER;
     }
@@ -235,7 +234,7 @@ fn how_many() -> u64 {
 }
 
 // Prints what the rounds came to.
-fn print_told(told: Told) {
+fn print_told(rt: &HostRuntime, told: Told) {
     let mut out = [0u8; 64];
     let sum = buffer::put_number(&mut out, 0, told.sum);
     let then = buffer::put(&mut out, sum, b" ");
@@ -243,20 +242,22 @@ fn print_told(told: Told) {
     let last = buffer::put(&mut out, answer, b" ");
     let records = buffer::put_number(&mut out, last, told.records as u64);
     let end = buffer::put(&mut out, records, b"\n");
-    io::write_all(STDOUT_FILENO, buffer::front(&out, end));
+    console::write(rt, buffer::front(&out, end));
 }
 
-fn main() {
-    let kind = asked();
-    let rounds = how_many();
+fn main(rt: HostRuntime) {
+    let kind = asked(&rt);
+    let rounds = how_many(&rt);
     let mut input = [0u8; ROOM];
-    let n = io::read_full(STDIN_FILENO, &mut input);
+    let n = console::read_full(&rt, &mut input);
     let script = &input[..n];
     let last = last_call(script);
-    let is_asked = kind != NOTHING && rounds != numbers::NO_NUMBER && os::arg_count() == 3;
+    let is_asked = kind != NOTHING
+        && rounds != numbers::NO_NUMBER
+        && console::argument_count(&rt) == 3;
     if is_asked && n < ROOM && last < n {
-        print_told(measure(kind, rounds, script, last));
+        print_told(&rt, measure(kind, rounds, script, last));
     } else {
-        io::write_all(STDOUT_FILENO, b"?\n");
+        console::write(&rt, b"?\n");
     }
 }

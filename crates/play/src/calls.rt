@@ -10,16 +10,23 @@ use script::{lines, words};
 use texts::{answers, buffer};
 
 // What a read shows.
-fn print_read<'a>(line: Line, name: &[u8], answer: Answer, table: &'a [u8], drafts: &'a [u8]) {
+fn print_read<'a>(
+    rt: &HostRuntime,
+    line: Line,
+    name: &[u8],
+    answer: Answer,
+    table: &'a [u8],
+    drafts: &'a [u8],
+) {
     let books = answer.books;
     let shown = books.show(answer.number, line.first, line.second, drafts, table);
     let mut out = [0u8; 64];
     let end = answers::value(&mut out, name, answer.number, shown);
-    print(&mut out, end);
+    print(rt, &mut out, end);
 }
 
 // What an order gives back.
-fn print_order(name: &[u8], answer: Answer, numbers: &[u16]) {
+fn print_order(rt: &HostRuntime, name: &[u8], answer: Answer, numbers: &[u16]) {
     let mut out = [0u8; 256];
     let end = answers::order(
         &mut out,
@@ -28,25 +35,26 @@ fn print_order(name: &[u8], answer: Answer, numbers: &[u16]) {
         numbers,
         answer.answer as usize,
     );
-    print(&mut out, end);
+    print(rt, &mut out, end);
 }
 
 // A begin or a post: the handle.
-fn print_handle(name: &[u8], answer: Answer) {
+fn print_handle(rt: &HostRuntime, name: &[u8], answer: Answer) {
     let mut out = [0u8; 64];
     let end = answers::handle(&mut out, name, answer.number, answer.answer);
-    print(&mut out, end);
+    print(rt, &mut out, end);
 }
 
 // Any other call: its number.
-fn print_number(name: &[u8], number: u8) {
+fn print_number(rt: &HostRuntime, name: &[u8], number: u8) {
     let mut out = [0u8; 64];
     let end = answers::number(&mut out, name, number);
-    print(&mut out, end);
+    print(rt, &mut out, end);
 }
 
 // Prints what a call gave back, behind its name as it stands on the line.
 fn print_answer<'a>(
+    rt: &HostRuntime,
     line: Line,
     content: &[u8],
     answer: Answer,
@@ -57,22 +65,31 @@ fn print_answer<'a>(
     let name = words::word(content, 0);
     let kind = line.kind;
     match kind {
-        lines::READ => print_read(line, name, answer, table, drafts),
-        lines::ORDER => print_order(name, answer, numbers),
-        lines::BEGIN | lines::POST => print_handle(name, answer),
-        _ => print_number(name, answer.number),
+        lines::READ => print_read(rt, line, name, answer, table, drafts),
+        lines::ORDER => print_order(rt, name, answer, numbers),
+        lines::BEGIN | lines::POST => print_handle(rt, name, answer),
+        _ => print_number(rt, name, answer.number),
     }
 }
 
 // The lines that change nothing: they print what there is, or save it.
-fn look(kind: usize, content: &[u8], opening: &[u8], table: &[u8], log: &[u8], records: u16) {
+fn look(
+    rt: &HostRuntime,
+    kind: usize,
+    content: &[u8],
+    opening: &[u8],
+    table: &[u8],
+    log: &[u8],
+    records: u16,
+) {
     match kind {
-        lines::TABLE => print_table(table),
-        lines::LOG => print_log(log, records),
+        lines::TABLE => print_table(rt, table),
+        lines::LOG => print_log(rt, log, records),
         lines::SAVE => {
             print_number(
+                rt,
                 b"save",
-                save(words::word(content, 1), opening, log, records),
+                save(rt, words::word(content, 1), opening, log, records),
             );
         }
         _ => {}
@@ -82,6 +99,7 @@ fn look(kind: usize, content: &[u8], opening: &[u8], table: &[u8], log: &[u8], r
 // Plays a line. From the table's on, lines change nothing; an open and a granted close begin a new day, whose opening table is the table as it
 // is.
 pub fn play(
+    rt: &HostRuntime,
     books: Books,
     line: Line,
     content: &[u8],
@@ -94,12 +112,12 @@ pub fn play(
 {
     let kind = line.kind;
     if lines::TABLE <= kind {
-        look(kind, content, opening, table, log, books.records);
+        look(rt, kind, content, opening, table, log, books.records);
         return books;
     }
     let mut numbers = [0u16; sizes::ORDER_NUMBERS];
     let answer = making::make(books, line, content, table, drafts, log, &mut numbers);
-    print_answer(line, content, answer, table, drafts, &numbers);
+    print_answer(rt, line, content, answer, table, drafts, &numbers);
     if kind < lines::CLOSE {
         return answer.books;
     }

@@ -23,6 +23,7 @@ fn of_right(out: &mut [u8], log: &[u8], z: Size) -> usize
 }
 
 // The report of any log: refused, if it is badly laid out.
+#[tactic(auto, using(crate::proofs::Reporting::reported_bad, crate::proofs::Reporting::reported_right))]
 fn of_log(out: &mut [u8], log: &[u8], z: Size) -> usize
     requires { (report_room ≤ length out.old) × Within z }
     ensures { take result out.new ≡ reported z log.now }

@@ -4,15 +4,14 @@
 mod day;
 mod lines;
 
-use libc::{STDIN_FILENO, STDOUT_FILENO};
 use rules::sizes;
 use texts::buffer;
 
 // A saved day has at most 256 + 64,016 bytes. One byte more is read, so that a longer one is seen to be badly laid out.
-fn main() {
+fn main(rt: HostRuntime) {
     let mut input = [0u8; sizes::TABLE_BYTES + sizes::LOG_BYTES + 1];
-    let n = io::read_full(STDIN_FILENO, &mut input);
+    let n = console::read_full(&rt, &mut input);
     let mut out = [0u8; 164064];
     let end = day::report(&input[..n], &mut out);
-    io::write_all(STDOUT_FILENO, buffer::front(&out, end));
+    console::write(&rt, buffer::front(&out, end));
 }

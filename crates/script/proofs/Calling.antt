@@ -6,7 +6,7 @@ use mathlib.Core.List.{List, []}
 use Prim.Native.Nat.{ℕ, ◌+◌, ◌-◌, ◌<◌, ◌≤◌}
 use lib.Dec.{eqb, leb}
 use lib.ListN.{length}
-use borrow.Author.Tests.{eq-eqb, ne_eqb, lt-ltb, le-ltb, leb-true, not-true, not-false}
+use borrow.Author.Tests.{eq-eqb, ne_eqb, lt-ltb, le-ltb, leb-true}
 use Rattle.basics.specs.Below.{least_below, all_below}
 use Rattle.basics.specs.Bytes.{same}
 use Rattle.basics.proofs.Below.{all_at}
@@ -82,13 +82,6 @@ module _ (line : List ℕ) (kind : ℕ) where
   an_argument n h e q = rw (le-ltb (numbers_in kind) n h, ← e) q
 
 -- ---- the line as a whole
-
--- where a call gives the answer r, and the code asks for not r
-pub answered_true : {r t : Bool} → r ≡ t → not r ≡ false → t ≡ true
-answered_true {r} e h = sym e ∙ not-false r h
-
-pub answered_false : {r t : Bool} → r ≡ t → not r ≡ true → t ≡ false
-answered_false {r} e h = sym e ∙ not-true r h
 
 pub nothing_on_it : (line : List ℕ) {at : ℕ} → at ≡ word_start line 0 → at ≡ length line → no_call empty ≡ call_of line
 unfolding call_of ends_before

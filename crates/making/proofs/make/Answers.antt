@@ -5,5 +5,6 @@ use Rattle.making.proofs.make.Goals as goal
 pub returns : goal.returns
 returns c =
     let start = c.args in
-    let step = c.stepped in
-    made_same start.books start.table.now start.drafts.now start.log.now start.numbers.now _ _ _ _ _ c.call_for.ensures c.value_of_lem.ensures.1.0 step.ensures
+    let left = c.stepped.ensures in
+    made_same start.books start.table.now start.drafts.now start.log.now start.numbers.now _ _ _ _ _ c.call_for.ensures c.value_of-n.ensures.value
+    (left.answer, (left.table, (left.drafts, (left.log, left.numbers))))

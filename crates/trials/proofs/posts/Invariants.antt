@@ -5,7 +5,7 @@ use lib.ListN.{length}
 use Rattle.trials.proofs.posts.Given as goal
 
 abbrev pub invariant-loop-i : goal.invariant-loop-i
-invariant-loop-i l = (i ≤ l.count) × (length l.log ≡ length l.initial.table) × (length l.books ≡ length l.initial.log)
+invariant-loop-i l = (l.i ≤ l.count) × (length l.table ≡ length l.initial.table) × (length l.log ≡ length l.initial.log)
 
 abbrev pub decreases-loop-i : goal.decreases-loop-i
-decreases-loop-i l = l.count - i
+decreases-loop-i l = l.count - l.i

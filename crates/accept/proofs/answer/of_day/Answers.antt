@@ -2,7 +2,6 @@
 use mathlib.Core.Path.{refl, ◌∙◌, ap}
 use native.Mathlib.Omega.{arith}
 use lib.ListN.{length, take, drop}
-use borrow.Author.Rules.{rules}
 use Rattle.rules.specs.Sizes.{yard}
 use Rattle.rules.specs.Checker.{checked}
 use Rattle.texts.proofs.Putting.{tail_is}
@@ -11,14 +10,6 @@ use Rattle.accept.proofs.answer.of_day.Goals as goal
 
 pub returns-then-input-lt-TABLE_BYTES : goal.returns-then-input-lt-TABLE_BYTES
 returns-then-input-lt-TABLE_BYTES c = let start = c.args in day_short yard start.input.now (drop 256 start.input.now) start.begin start.order.now (omega arith)
-
--- TODO
--- part_checked_start : tie.Need-slice-bounds-checked-start
--- part_checked_start c = search rules
-
--- TODO
--- part_checked_end : tie.Need-slice-bounds-checked-end
--- part_checked_end c = search rules
 
 pub returns : goal.returns
 returns c =

@@ -7,4 +7,4 @@ use Rattle.cells.proofs.cell.value_at.Goals as goal
 pub returns : goal.returns
 unfolding cell_of
 returns c =
-    c.value_of_lem.ensures ∙ cell_part c.args.cell c.args.from.now
+    c.value_of.ensures ∙ cell_part c.args.cell c.args.from.now

@@ -10,9 +10,12 @@ returns-then-named-sets_moment c = late_explained _ _ _ _ _ _ _ _ _ c.sets_momen
 
 pub is_read_explained-requires : goal.is_read_explained-requires
 is_read_explained-requires c =
-    let asked = c.requires.past_only.1 in
-    let judged = sym c.is_judged_read.ensures ∙ c.if-is_judged_read.true in
-    (c.requires.within, (c.requires.past_only.0.0, (search rules, (search rules, (asked.1.0.judged_read judged, search rules)))))
+    let judged = sym c.is_judged_read.ensures ∙ c.if-is_judged_read.true in record {
+      within = c.requires.within;
+      past = c.requires.past_only.0;
+      le_n = search rules;
+      opening_len = (search rules, (c.requires.cell_right.judged_read judged, search rules));
+    }
 
 pub returns-then-is_judged_read : goal.returns-then-is_judged_read
 returns-then-is_judged_read c =
@@ -21,9 +24,12 @@ returns-then-is_judged_read c =
 
 pub is_own_explained-requires : goal.is_own_explained-requires
 is_own_explained-requires c =
-    let asked = c.requires.past_only.1 in
-    let own = sym c.is_own_read.ensures ∙ c.if-is_own_read.true in
-    (c.requires.within, (c.requires.past_only.0.1, (search rules, (search rules, (asked.1.0.own_read own, search rules)))))
+    let own = sym c.is_own_read.ensures ∙ c.if-is_own_read.true in record {
+      within = c.requires.within;
+      past = c.requires.past_only.1;
+      le_n = search rules;
+      opening_len = (search rules, (c.requires.cell_right.own_read own, search rules));
+    }
 
 pub returns-then-is_own_read : goal.returns-then-is_own_read
 returns-then-is_own_read c =

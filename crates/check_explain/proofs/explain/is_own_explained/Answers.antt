@@ -6,7 +6,10 @@ use Rattle.check_explain.proofs.explain.is_own_explained.Goals as goal
 
 pub is_from-requires : goal.is_from-requires
 is_from-requires c =
-    omega (arith, c.requires, c.requires.past.0 (mark c.args.at c.args.cell))
+    record {
+      le_n = omega (arith, c.requires.past (mark c.args.at c.args.cell));
+      cell_bytes_in_bounds = omega arith;
+    }
 
 pub returns : goal.returns
 unfolding own_explained

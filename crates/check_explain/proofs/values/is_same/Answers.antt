@@ -1,6 +1,5 @@
 -- `check_explain::values::is_same` meets its contract. The loop's invariant: the first i bytes are the same. The measure is what is left of the eight.
 -- Assumes nothing.
-use Prim.Native.Nat.{◌-◌}
 use mathlib.Core.Path.{◌∙◌}
 use borrow.Author.Tests.{eq-eqb, ne_eqb}
 use borrow.Author.Rules.{rules}

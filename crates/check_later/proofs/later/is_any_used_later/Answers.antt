@@ -1,6 +1,6 @@
 -- `check_later::later::is_any_used_later` meets its contract. The loop's invariant: no cell below c was written and used later.
 -- The measure is what is left of the cells. Assumes nothing.
-use Prim.Native.Nat.{ℕ, ◌-◌}
+use Prim.Native.Nat.{ℕ}
 use mathlib.Core.Path.{◌≡◌, sym}
 use mathlib.Core.Bool.{Bool, true, not, ◌&&◌}
 use mathlib.Core.List.{List}

@@ -1,6 +1,5 @@
 -- `check_later::later::is_used_later` meets its contract. The loop's invariant: nobody listed before i is later and used the cell.
 -- The measure is what is left of the list. Assumes nothing.
-use Prim.Native.Nat.{◌-◌}
 use native.Mathlib.Omega.{arith}
 use Rattle.basics.proofs.Below.{any_none, any_skips}
 use Rattle.basics.proofs.Tested.{any_found, none_found}

@@ -1,6 +1,5 @@
 -- `check_list::lists::is_distinct` meets its contract. The loop's invariant: each number listed before i is first where it stands.
 -- The measure is what is left of the list. Assumes nothing.
-use Prim.Native.Nat.{◌-◌}
 use mathlib.Core.Path.{sym, ◌∙◌}
 use borrow.Author.Tests.{eq-eqb, ne_eqb}
 use Rattle.basics.proofs.Tested.{none_passed, one_more_passes, one_fails, all_passed}

@@ -1,6 +1,6 @@
 -- `check_list::lists::position` meets its contract. The loop's invariant: the transaction was not found so far. The measure is what is left of the list.
 -- Assumes nothing.
-use Prim.Native.Nat.{ℕ, ◌-◌}
+use Prim.Native.Nat.{ℕ}
 use mathlib.Core.Bool.{Bool}
 use mathlib.Core.Path.{◌≡◌, sym, ◌∙◌, ap}
 use native.Mathlib.Omega.{arith}

@@ -2,7 +2,6 @@
 -- Assumes nothing.
 use mathlib.Core.Path.{sym, ◌∙◌}
 use native.Mathlib.Omega.{arith}
-use borrow.Author.Tests.{not-true, not-false}
 use Rattle.checker.proofs.Answered.{answered_lent, answered_badly, answered_unknown, answered_not, answered_accepted, begin_small}
 use Rattle.checker.proofs.proposal.sized.Goals as goal
 
@@ -12,37 +11,36 @@ returns-then-opening-z c = let a = c.args in answered_lent a.z a.opening.now a.l
 pub returns-then-not-is_right : goal.returns-then-not-is_right
 returns-then-not-is_right c =
     let a = c.args in
-    answered_badly a.z a.opening.now a.log.now a.begin a.list.now c.if-opening-z.false (sym c.is_right.ensures ∙ not-true _ c.if-not-is_right.true)
+    answered_badly a.z a.opening.now a.log.now a.begin a.list.now c.if-opening-z.false (sym c.is_right.ensures ∙ c.if-not-is_right.true)
 
 pub returns-then-not-is_start : goal.returns-then-not-is_start
 returns-then-not-is_start c =
     let a = c.args in
-    answered_unknown a.z a.opening.now a.log.now a.begin a.list.now c.if-opening-z.false (sym c.is_right.ensures ∙ not-false _ c.if-not-is_right.false)
-    (sym c.is_start.ensures ∙ not-true _ c.if-not-is_start.true)
+    answered_unknown a.z a.opening.now a.log.now a.begin a.list.now c.if-opening-z.false (sym c.is_right.ensures ∙ c.if-not-is_right.false)
+    (sym c.is_start.ensures ∙ c.if-not-is_start.true)
 
 pub overflow_cast-begin : goal.overflow_cast-begin
 overflow_cast-begin c =
     let a = c.args in
-    let right = sym c.is_right.ensures ∙ not-false _ c.if-not-is_right.false in
-    let known = sym c.is_start.ensures ∙ not-false _ c.if-not-is_start.false in
+    let right = sym c.is_right.ensures ∙ c.if-not-is_right.false in
+    let known = sym c.is_start.ensures ∙ c.if-not-is_start.false in
     omega (arith, begin_small a.z a.log.now a.begin right known)
 
 pub is_accepted-requires : goal.is_accepted-requires
 is_accepted-requires c =
-    let right = sym c.is_right.ensures ∙ not-false _ c.if-not-is_right.false in
-    let known = sym c.is_start.ensures ∙ not-false _ c.if-not-is_start.false in
-    (c.requires, ((c.if-opening-z.false, right), known))
+    let right = sym c.is_right.ensures ∙ c.if-not-is_right.false in
+    let known = sym c.is_start.ensures ∙ c.if-not-is_start.false in record { within = c.requires; opening_len = (c.if-opening-z.false, right); t_value = known }
 
 pub returns-then-not-is_accepted : goal.returns-then-not-is_accepted
 returns-then-not-is_accepted c =
     let a = c.args in
-    let right = sym c.is_right.ensures ∙ not-false _ c.if-not-is_right.false in
-    let known = sym c.is_start.ensures ∙ not-false _ c.if-not-is_start.false in
-    answered_not a.z a.opening.now a.log.now a.begin a.list.now c.if-opening-z.false right known (sym c.is_accepted.ensures ∙ not-true _ c.if-not-is_accepted.true)
+    let right = sym c.is_right.ensures ∙ c.if-not-is_right.false in
+    let known = sym c.is_start.ensures ∙ c.if-not-is_start.false in
+    answered_not a.z a.opening.now a.log.now a.begin a.list.now c.if-opening-z.false right known (sym c.is_accepted.ensures ∙ c.if-not-is_accepted.true)
 
 pub returns : goal.returns
 returns c =
     let a = c.args in
-    let right = sym c.is_right.ensures ∙ not-false _ c.if-not-is_right.false in
-    let known = sym c.is_start.ensures ∙ not-false _ c.if-not-is_start.false in
-    answered_accepted a.z a.opening.now a.log.now a.begin a.list.now c.if-opening-z.false right known (sym c.is_accepted.ensures ∙ not-false _ c.if-not-is_accepted.false)
+    let right = sym c.is_right.ensures ∙ c.if-not-is_right.false in
+    let known = sym c.is_start.ensures ∙ c.if-not-is_start.false in
+    answered_accepted a.z a.opening.now a.log.now a.begin a.list.now c.if-opening-z.false right known (sym c.is_accepted.ensures ∙ c.if-not-is_accepted.false)

@@ -5,4 +5,7 @@ use Rattle.effects.proofs.held.give_up.Goals as goal
 pub returns : goal.returns
 returns c =
     let a = c.args in
-    give_up_meets a.records a.places a.log.now a.i a.z c.free.ensures c.changed.ensures c.add.ensures
+    let met = give_up_meets a.records a.places a.log.now a.i a.z c.free.ensures c.changed.ensures c.add.ensures in record {
+      step = met.0;
+      log = met.1;
+    }

@@ -8,4 +8,4 @@ pub returns : goal.returns
 unfolding text first_told
 returns c =
     let end = c.put in
-    then_placed _ _ _ c.labelled-counted.ensures _ (then_placed _ _ _ c.labelled-end.ensures _ (one_placed _ _ _ end.ensures.0 end.ensures.1))
+    then_placed _ _ _ c.labelled-counted.ensures _ (then_placed _ _ _ c.labelled-end.ensures _ (one_placed _ _ _ end.ensures.next end.ensures.bytes))

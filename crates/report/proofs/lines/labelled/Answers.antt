@@ -8,4 +8,4 @@ unfolding labelled
 returns c =
     let named = c.put-next in
     let last = c.put_decimal in
-    first_placed _ _ _ named.ensures.0 named.ensures.1 _ (one_placed _ _ _ last.ensures.0 last.ensures.1)
+    first_placed _ _ _ named.ensures.next named.ensures.bytes _ (one_placed _ _ _ last.ensures.next last.ensures.bytes)

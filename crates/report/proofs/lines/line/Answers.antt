@@ -11,8 +11,8 @@ returns c =
     let space = c.put-next in
     let stood = c.standing-stood in
     let end = c.put in
-    first_placed _ _ _ begun.ensures.0 begun.ensures.1 _
+    first_placed _ _ _ begun.ensures.next begun.ensures.bytes _
     (then_placed _ _ _ c.labelled-placed.ensures _
-    (first_placed _ _ _ space.ensures.0 space.ensures.1 _
-    (first_placed _ _ _ stood.ensures.0 stood.ensures.1 _
-    (then_placed _ _ _ c.labelled-end.ensures _ (one_placed _ _ _ end.ensures.0 end.ensures.1)))))
+    (first_placed _ _ _ space.ensures.next space.ensures.bytes _
+    (first_placed _ _ _ stood.ensures.next stood.ensures.bytes _
+    (then_placed _ _ _ c.labelled-end.ensures _ (one_placed _ _ _ end.ensures.next end.ensures.bytes)))))

@@ -1,6 +1,7 @@
 -- `report::lines::standing` meets its contract: each arm puts the word of its number. Assumes nothing.
 use mathlib.Core.Path.{◌≡◌, refl, sym, ◌∙◌, ap}
 use Prim.Native.Nat.{ℕ, zero, suc}
+use native.Mathlib.Omega.{arith}
 use Rattle.basics.specs.Text.{text}
 use Rattle.texts.proofs.Putting.{after_same, with_same}
 use Rattle.report.specs.Reported.{word_told}
@@ -20,7 +21,7 @@ unfolding word_told text
 returns-in-0 c =
     let start = c.args in
     let put = c.put in
-    let same = ap word_told (sym c.in-0.keys1) in record {
+    let same = ap word_told (sym c.in-0.is) in record {
       next = put.ensures.next ∙ after_same start.out.now start.at same;
       bytes = put.ensures.bytes ∙ with_same start.out.now start.at same;
     }
@@ -30,7 +31,7 @@ unfolding word_told text
 returns-in-1 c =
     let start = c.args in
     let put = c.put-in-1 in
-    let same = ap word_told (sym c.in-1.keys2) in record {
+    let same = ap word_told (sym c.in-1.is) in record {
       next = put.ensures.next ∙ after_same start.out.now start.at same;
       bytes = put.ensures.bytes ∙ with_same start.out.now start.at same;
     }
@@ -40,7 +41,7 @@ unfolding word_told text
 returns-in-2 c =
     let start = c.args in
     let put = c.put-in-2 in
-    let same = ap word_told (sym c.in-2.keys3) in record {
+    let same = ap word_told (sym c.in-2.is) in record {
       next = put.ensures.next ∙ after_same start.out.now start.at same;
       bytes = put.ensures.bytes ∙ with_same start.out.now start.at same;
     }
@@ -50,7 +51,7 @@ unfolding word_told text
 returns-in-3 c =
     let start = c.args in
     let put = c.put-in-3 in
-    let same = ap word_told (sym c.in-3.keys4) in record {
+    let same = ap word_told (sym c.in-3.is) in record {
       next = put.ensures.next ∙ after_same start.out.now start.at same;
       bytes = put.ensures.bytes ∙ with_same start.out.now start.at same;
     }
@@ -60,7 +61,7 @@ unfolding word_told text
 returns-in_default c =
     let start = c.args in
     let put = c.put-in_default in
-    let same = let rest = c.in_default.rest in others start.number rest.0.0.0.1 rest.0.0.1 rest.0.1 rest.1 in record {
+    let same = others start.number (omega arith) (omega arith) (omega arith) (omega arith) in record {
       next = put.ensures.next ∙ after_same start.out.now start.at same;
       bytes = put.ensures.bytes ∙ with_same start.out.now start.at same;
     }

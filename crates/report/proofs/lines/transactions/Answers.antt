@@ -1,6 +1,5 @@
 -- `report::lines::transactions` meets its contract. The loop's invariant: the lines of the first n records are put, and the length stays.
 -- Assumes nothing.
-use Prim.Native.Nat.{◌-◌}
 use mathlib.Core.Path.{◌≡◌, sym, ◌∙◌, ap}
 use native.Mathlib.Omega.{arith}
 use borrow.Author.Rules.{rules}

@@ -13,10 +13,11 @@ returns-then-end-piece c =
     let hold = c.hold-held_now in
     let piece = start.piece.now in
     let line = start.line.now in
-    let size = part_size piece start.at end.result end.ensures.1 end.ensures.2 in (
-      taken_whole piece start.at (length line) start.held end.ensures.0 size hold.ensures.next (omega arith),
-      ((λ h. omega arith, omega arith), hold.ensures.bytes ∙ with_same line start.held (rest_is piece start.at end.ensures.0)),
-    )
+    let size = part_size piece start.at end.result end.ensures.1 end.ensures.2 in record {
+      taken = taken_whole piece start.at (length line) start.held end.ensures.0 size hold.ensures.next (omega arith);
+      moves = (λ h. omega arith, omega arith);
+      bytes = hold.ensures.bytes ∙ with_same line start.held (rest_is piece start.at end.ensures.0);
+    }
 
 pub returns : goal.returns
 returns c =
@@ -25,7 +26,8 @@ returns c =
     let hold = c.hold-held_now in
     let piece = start.piece.now in
     let line = start.line.now in
-    let size = part_size piece start.at end.result end.ensures.1 end.ensures.2 in (
-      taken_part piece start.at (length line) start.held end.ensures.0 size hold.ensures.next (omega arith),
-      ((λ h. omega arith, omega arith), hold.ensures.bytes ∙ with_same line start.held (rest_is piece start.at end.ensures.0)),
-    )
+    let size = part_size piece start.at end.result end.ensures.1 end.ensures.2 in record {
+      taken = taken_part piece start.at (length line) start.held end.ensures.0 size hold.ensures.next (omega arith);
+      moves = (λ h. omega arith, omega arith);
+      bytes = hold.ensures.bytes ∙ with_same line start.held (rest_is piece start.at end.ensures.0);
+    }

@@ -1,5 +1,4 @@
 -- `script::lines::kind_of` meets its contract. The loop's invariant: no name so far is the word. Assumes nothing.
-use Prim.Native.Nat.{◌-◌}
 use native.Mathlib.Omega.{arith}
 use Rattle.basics.specs.Text.{text}
 use Rattle.basics.proofs.Bools.{clash}

@@ -16,7 +16,11 @@ unfolding value_in
 returns-then-at-eq0 c =
     let start = c.args in
     let none = nothing_on start.line.now start.kind c.if-at-eq0.true in
-    ((search rules, refl), (sym (ap (take (length start.out.now)) none ∙ take-nil (length start.out.now)), refl))
+    record {
+      front = (search rules, refl);
+      value = sym (ap (take (length start.out.now)) none ∙ take-nil (length start.out.now));
+      rest = refl;
+    }
 
 pub returns : goal.returns
 unfolding value_in
@@ -26,15 +30,13 @@ returns c =
     let word = c.word in
     let room = length start.out.now in
     let bytes = value_bytes word.result.now in
-    let count = put.ensures.next ∙ ap (at_most room) (sym (value_bytes_length word.result.now)) in
+    let count = put.ensures.count ∙ ap (at_most room) (sym (value_bytes_length word.result.now)) in
     let within = at_most_within room (length bytes) count in
-    let same = value_there start.line.now start.kind c.if-at-eq0.false word.ensures in (
-      put.ensures.bytes.0,
-      (
-        ap (take put.result) put.ensures.bytes.1
-            ∙ front_taken start.out.now bytes put.result within
-            ∙ at_most_taken room bytes count
-            ∙ ap (take room) same,
-        ap (drop put.result) put.ensures.bytes.1 ∙ front_rest start.out.now bytes put.result within,
-      ),
-    )
+    let same = value_there start.line.now start.kind c.if-at-eq0.false word.ensures in record {
+      front = put.ensures.front;
+      value = ap (take put.result) put.ensures.bytes
+          ∙ front_taken start.out.now bytes put.result within
+          ∙ at_most_taken room bytes count
+          ∙ ap (take room) same;
+      rest = ap (drop put.result) put.ensures.bytes ∙ front_rest start.out.now bytes put.result within;
+    }

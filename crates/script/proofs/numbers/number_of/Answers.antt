@@ -1,5 +1,4 @@
 -- `script::numbers::number_of` meets its contract. The loop's invariant: n is what the first i bytes name. Assumes nothing.
-use Prim.Native.Nat.{◌-◌}
 use mathlib.Core.Path.{◌∙◌}
 use native.Mathlib.Omega.{arith}
 use borrow.Author.Rules.{rules}

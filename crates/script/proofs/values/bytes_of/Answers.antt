@@ -1,5 +1,4 @@
 -- `script::values::bytes_of` meets its contract. The loop's invariant: the first i bytes are put, and the length stays. Assumes nothing.
-use Prim.Native.Nat.{◌-◌}
 use mathlib.Core.Path.{sym, ◌∙◌}
 use native.Mathlib.Omega.{arith}
 use lib.Seq.{length-take-le}
@@ -26,9 +25,17 @@ loop-i-preserved c =
 pub returns-else-i-out : goal.returns-else-i-out
 returns-else-i-out c =
     let end = c.loop-i in
-    (at_most_room _ _ (omega (arith, ltb-false)) (omega (arith, ltb-false)), ((search rules, sym (length-take-le end.i end.out (omega arith))), end.invariant.3))
+    record {
+      count = at_most_room _ _ (omega (arith, ltb-false)) (omega (arith, ltb-false));
+      front = (search rules, sym (length-take-le end.i end.out (omega arith)));
+      bytes = end.invariant.3;
+    }
 
 pub returns-after-loop-i : goal.returns-after-loop-i
 returns-after-loop-i c =
     let end = c.loop-i in
-    (at_most_all _ _ (omega arith) (omega arith), ((search rules, sym (length-take-le end.i end.out (omega arith))), end.invariant.3))
+    record {
+      count = at_most_all _ _ (omega arith) (omega arith);
+      front = (search rules, sym (length-take-le end.i end.out (omega arith)));
+      bytes = end.invariant.3;
+    }

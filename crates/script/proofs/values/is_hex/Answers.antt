@@ -1,5 +1,4 @@
 -- `script::values::is_hex` meets its contract. The loop's invariant: the first i bytes are digits. Assumes nothing.
-use Prim.Native.Nat.{◌-◌}
 use native.Mathlib.Omega.{arith}
 use Rattle.basics.proofs.Tested.{none_passed}
 use Rattle.script.proofs.HexLaws.{odd_no_value, one_no_digit, one_digit_more, all_digits}

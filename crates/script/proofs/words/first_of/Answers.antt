@@ -1,5 +1,4 @@
 -- `script::words::first_of` meets its contract. The loop's invariant: no byte of the class was found so far. Assumes nothing.
-use Prim.Native.Nat.{◌-◌}
 use native.Mathlib.Omega.{arith}
 use borrow.Author.Rules.{rules}
 use Rattle.script.proofs.Scanning.{first_none, first_found, first_skips, first_end}

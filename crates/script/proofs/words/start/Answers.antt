@@ -1,5 +1,4 @@
 -- `script::words::start` meets its contract. The loop's invariant: the word of number i starts at the place. Assumes nothing.
-use Prim.Native.Nat.{◌-◌}
 use native.Mathlib.Omega.{arith}
 use borrow.Author.Rules.{rules}
 use Rattle.script.proofs.Scanning.{start_first, start_next, start_there}

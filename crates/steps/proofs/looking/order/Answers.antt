@@ -1,6 +1,7 @@
 -- `steps::looking::order` is order's rule: refused by its first reason, or given. Rests on what the reasons, the refusal and the order are.
 use Rattle.effects.specs.Left.{Leaves, BufferIs}
 use Rattle.effects.specs.Stepped.{step_of}
+use Rattle.rules.specs.Handles.{place_of}
 use Rattle.steps.proofs.Either.{refused_buffer, when_granted_at}
 use Rattle.steps.proofs.Known.{order_known}
 use Rattle.rules.specs.Books.{books_of}
@@ -13,7 +14,12 @@ use Rattle.steps.proofs.looking.order.Goals as goal
 pub returns-then-number-ne-GRANTED : goal.returns-then-number-ne-GRANTED
 unfolding order_rule
 returns-then-number-ne-GRANTED c =
-    refused_buffer _ _ _ c.of_order-number.ensures c.if-number-ne-GRANTED.true c.refused.ensures c.args.numbers.now
+    let a = c.args in
+    let s = state_of (books_of a.records a.places) [] [] in
+    let met = refused_buffer _ s (order_of a.z s (place_of a.handle)) c.of_order-number.ensures c.if-number-ne-GRANTED.true c.refused.ensures a.numbers.now in record {
+      step = met.0;
+      numbers = met.1;
+    }
 
 pub order-requires : goal.order-requires
 order-requires c =
@@ -27,4 +33,7 @@ unfolding order_rule
 returns c =
     let a = c.args in
     let s = state_of (books_of a.records a.places) [] [] in
-    when_granted_at _ s _ c.of_order-number.ensures (Leaves step_of c.order.result (BufferIs a.numbers.now _)) (λ i. order_of a.z s i) refl c.place_of.ensures c.if-number-ne-GRANTED.false c.order.ensures
+    let met = when_granted_at _ s (order_of a.z s (place_of a.handle)) c.of_order-number.ensures (Leaves step_of c.order.result (BufferIs a.numbers.now _)) (λ i. order_of a.z s i) refl c.place_of.ensures c.if-number-ne-GRANTED.false (c.order.ensures.step, c.order.ensures.numbers) in record {
+      step = met.0;
+      numbers = met.1;
+    }

@@ -13,7 +13,13 @@ use Rattle.steps.proofs.taking.post.Goals as goal
 pub returns-then-number-ne-GRANTED : goal.returns-then-number-ne-GRANTED
 unfolding post_rule
 returns-then-number-ne-GRANTED c =
-    refused_table _ _ _ c.of_post-number.ensures c.if-number-ne-GRANTED.true c.refused.ensures c.args.log.now
+    let a = c.args in
+    let s = state_of (books_of a.records a.places) a.table.now [] in
+    let met = refused_table _ s (post_of a.z s a.cell a.value.now) c.of_post-number.ensures c.if-number-ne-GRANTED.true c.refused.ensures a.log.now in record {
+      step = met.0;
+      table = met.1.0;
+      log = met.1.1;
+    }
 
 pub value_of-requires : goal.value_of-requires
 value_of-requires c =
@@ -23,11 +29,20 @@ value_of-requires c =
 pub post-requires : goal.post-requires
 post-requires c =
     let a = c.args in
-    (c.requires, (post_known a.z a.records a.places c.if-number-ne-GRANTED.false c.of_post-number.ensures).1)
+    let known = post_known a.z a.records a.places c.if-number-ne-GRANTED.false c.of_post-number.ensures in record {
+      within = c.requires;
+      places_bound = known.1.0;
+      records_lt_most_records = known.1.1.0;
+      table_len = known.1.1.1;
+    }
 
 pub returns : goal.returns
 unfolding post_rule
 returns c =
     let a = c.args in
     let s = state_of (books_of a.records a.places) a.table.now [] in
-    when_granted_with _ s _ c.of_post-number.ensures (Leaves step_of c.post.result (TableAndLog a.records _ a.log.now _)) (λ i v. post_of a.z s i v) refl refl c.value_of_lem.ensures c.if-number-ne-GRANTED.false c.post.ensures
+    let met = when_granted_with _ s (post_of a.z s a.cell a.value.now) c.of_post-number.ensures (Leaves step_of c.post.result (TableAndLog a.records _ a.log.now _)) (λ i v. post_of a.z s i v) refl refl c.value_of.ensures c.if-number-ne-GRANTED.false (c.post.ensures.step, (c.post.ensures.table, c.post.ensures.log)) in record {
+      step = met.0;
+      table = met.1.0;
+      log = met.1.1;
+    }

@@ -1,5 +1,4 @@
 -- `texts::answers::cells` meets its contract. The loop's invariant: the first i cells are put, and the length stays. Assumes nothing.
-use Prim.Native.Nat.{◌-◌}
 use mathlib.Core.Path.{refl, ◌∙◌, ap}
 use native.Mathlib.Omega.{arith}
 use borrow.Author.Rules.{rules}

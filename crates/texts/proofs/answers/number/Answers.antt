@@ -7,4 +7,4 @@ pub returns : goal.returns
 unfolding number_line
 returns c =
     let name = c.put-end in
-    first_placed _ _ _ name.ensures.0 name.ensures.1 _ c.then_number.ensures
+    first_placed _ _ _ name.ensures.next name.ensures.bytes _ c.then_number.ensures

@@ -9,4 +9,4 @@ unfolding text then_number
 returns c =
     let space = c.put-next in
     let last = c.put_number in
-    first_placed _ _ _ space.ensures.0 space.ensures.1 _ (one_placed _ _ _ last.ensures.0 last.ensures.1)
+    first_placed _ _ _ space.ensures.next space.ensures.bytes _ (one_placed _ _ _ last.ensures.next last.ensures.bytes)

@@ -9,5 +9,5 @@ unfolding text unknown_line
 returns c =
     let line = c.put-named in
     let mark = c.put in
-    first_placed _ _ _ line.ensures.0 line.ensures.1 _
-    (then_placed _ _ _ c.then_number-end.ensures _ (one_placed _ _ _ mark.ensures.0 mark.ensures.1))
+    first_placed _ _ _ line.ensures.next line.ensures.bytes _
+    (then_placed _ _ _ c.then_number-end.ensures _ (one_placed _ _ _ mark.ensures.next mark.ensures.bytes))

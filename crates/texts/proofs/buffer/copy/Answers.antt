@@ -1,5 +1,4 @@
 -- `texts::buffer::copy` meets its contract. The loop's invariant: the first i bytes are copied, and the length stays. Assumes nothing.
-use Prim.Native.Nat.{◌-◌}
 use native.Mathlib.Omega.{arith}
 use borrow.Author.Rules.{rules}
 use Rattle.basics.proofs.Copied.{copied_more, copied_all}

@@ -1,5 +1,4 @@
 -- `texts::hex::spell` meets its contract. The loop's invariant: the first i bytes are spelled out, and the length stays. Assumes nothing.
-use Prim.Native.Nat.{◌-◌}
 use mathlib.Core.Path.{◌∙◌}
 use native.Mathlib.Omega.{arith}
 use lib.ListN.{length-set}

@@ -23,6 +23,6 @@ returns c =
     let spelled = c.put_decimal-end in
     let ended = c.put in
     all_fit start.out.now (text "refused " ∷ (decimal start.number ∷ (text "\n" ∷ [])))
-    (first_placed _ _ _ said.ensures.0 said.ensures.1 _
-    (first_placed _ _ _ spelled.ensures.0 spelled.ensures.1 _ (one_placed _ _ _ ended.ensures.0 ended.ensures.1)))
+    (first_placed _ _ _ said.ensures.next said.ensures.bytes _
+    (first_placed _ _ _ spelled.ensures.next spelled.ensures.bytes _ (one_placed _ _ _ ended.ensures.next ended.ensures.bytes)))
     (omega (arith, short start.number))

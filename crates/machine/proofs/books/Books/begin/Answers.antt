@@ -15,4 +15,7 @@ begin-requires c = size_within c.yard_size.ensures
 pub returns : goal.returns
 returns c =
     let a = c.args in
-    handed_back (LogIs a.self.records a.log.now _) (λ z. begin_rule z (length a.log.now) (state_of (view a.self) [] [])) c.yard_size.ensures c.handed.ensures c.begin.ensures
+    let left = handed_back (LogIs a.self.records a.log.now _) (λ z. begin_rule z (length a.log.now) (state_of (view a.self) [] [])) c.yard_size.ensures c.handed.ensures (c.begin.ensures.step, c.begin.ensures.log) in record {
+      answer = left.0;
+      log = left.1;
+    }

@@ -16,4 +16,7 @@ close-requires c = size_within c.yard_size.ensures
 pub returns : goal.returns
 returns c =
     let a = c.args in
-    handed_back (LogIs a.self.records a.log.now _) (λ z. close_rule z (length a.log.now) (commits_in a.log.now a.self.records) (state_of (view a.self) [] [])) c.yard_size.ensures c.handed.ensures c.close.ensures
+    let left = handed_back (LogIs a.self.records a.log.now _) (λ z. close_rule z (length a.log.now) (commits_in a.log.now a.self.records) (state_of (view a.self) [] [])) c.yard_size.ensures c.handed.ensures (c.close.ensures.step, c.close.ensures.log) in record {
+      answer = left.0;
+      log = left.1;
+    }

@@ -14,4 +14,8 @@ commit-requires c = size_within c.yard_size.ensures
 pub returns : goal.returns
 returns c =
     let a = c.args in
-    handed_back (TableAndLog a.self.records _ a.log.now _) (λ z. commit_rule z (length a.log.now) (state_of (view a.self) a.table.now a.drafts.now) a.handle) c.yard_size.ensures c.handed.ensures c.commit.ensures
+    let left = handed_back (TableAndLog a.self.records _ a.log.now _) (λ z. commit_rule z (length a.log.now) (state_of (view a.self) a.table.now a.drafts.now) a.handle) c.yard_size.ensures c.handed.ensures (c.commit.ensures.step, (c.commit.ensures.table, c.commit.ensures.log)) in record {
+      answer = left.0;
+      table = left.1.0;
+      log = left.1.1;
+    }

@@ -15,4 +15,7 @@ give_up-requires c = size_within c.yard_size.ensures
 pub returns : goal.returns
 returns c =
     let a = c.args in
-    handed_back (LogIs a.self.records a.log.now _) (λ z. give_up_rule z (length a.log.now) (state_of (view a.self) [] []) a.handle) c.yard_size.ensures c.handed.ensures c.give_up.ensures
+    let left = handed_back (LogIs a.self.records a.log.now _) (λ z. give_up_rule z (length a.log.now) (state_of (view a.self) [] []) a.handle) c.yard_size.ensures c.handed.ensures (c.give_up.ensures.step, c.give_up.ensures.log) in record {
+      answer = left.0;
+      log = left.1;
+    }

@@ -15,4 +15,7 @@ order-requires c = size_within c.yard_size.ensures
 pub returns : goal.returns
 returns c =
     let a = c.args in
-    handed_back (BufferIs a.numbers.now _) (λ z. order_rule z (length a.numbers.now) (state_of (view a.self) [] []) a.handle) c.yard_size.ensures c.handed.ensures c.order.ensures
+    let left = handed_back (BufferIs a.numbers.now _) (λ z. order_rule z (length a.numbers.now) (state_of (view a.self) [] []) a.handle) c.yard_size.ensures c.handed.ensures (c.order.ensures.step, c.order.ensures.numbers) in record {
+      answer = left.0;
+      numbers = left.1;
+    }

@@ -15,4 +15,8 @@ post-requires c = size_within c.yard_size.ensures
 pub returns : goal.returns
 returns c =
     let a = c.args in
-    handed_back (TableAndLog a.self.records _ a.log.now _) (λ z. post_rule z (length a.log.now) (state_of (view a.self) a.table.now []) a.cell a.value.now) c.yard_size.ensures c.handed.ensures c.post.ensures
+    let left = handed_back (TableAndLog a.self.records _ a.log.now _) (λ z. post_rule z (length a.log.now) (state_of (view a.self) a.table.now []) a.cell a.value.now) c.yard_size.ensures c.handed.ensures (c.post.ensures.step, (c.post.ensures.table, c.post.ensures.log)) in record {
+      answer = left.0;
+      table = left.1.0;
+      log = left.1.1;
+    }

@@ -14,4 +14,7 @@ read-requires c = size_within c.yard_size.ensures
 pub returns : goal.returns
 returns c =
     let a = c.args in
-    handed_back (LogIs a.self.records a.log.now _) (λ z. read_rule z (length a.log.now) (state_of (view a.self) a.table.now a.drafts.now) a.handle a.cell) c.yard_size.ensures c.handed.ensures c.read.ensures
+    let left = handed_back (LogIs a.self.records a.log.now _) (λ z. read_rule z (length a.log.now) (state_of (view a.self) a.table.now a.drafts.now) a.handle a.cell) c.yard_size.ensures c.handed.ensures (c.read.ensures.step, c.read.ensures.log) in record {
+      answer = left.0;
+      log = left.1;
+    }

@@ -13,5 +13,8 @@ show-requires c = size_within c.yard_size-z.ensures
 pub returns : goal.returns
 returns c =
     let a = c.args in
-    at_yard (Shows a.drafts.now a.table.now a.drafts.ref_ptr a.table.ref_ptr _ _)
-    (λ z. show_rule z (state_of (view a.self) a.table.now a.drafts.now) a.given a.handle a.cell) c.yard_size-z.ensures c.show.ensures
+    let shown = at_yard (Shows a.drafts.now a.table.now a.drafts.ref_ptr a.table.ref_ptr _ _)
+    (λ z. show_rule z (state_of (view a.self) a.table.now a.drafts.now) a.given a.handle a.cell) c.yard_size-z.ensures (c.show.ensures.contents, c.show.ensures.place) in record {
+      contents = shown.0;
+      place = shown.1;
+    }

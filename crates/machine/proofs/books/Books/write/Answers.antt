@@ -15,4 +15,8 @@ write-requires c = size_within c.yard_size.ensures
 pub returns : goal.returns
 returns c =
     let a = c.args in
-    handed_back (DraftsAndLog a.self.records _ a.log.now _) (λ z. write_rule z (length a.log.now) (state_of (view a.self) [] a.drafts.now) a.handle a.cell a.value.now) c.yard_size.ensures c.handed.ensures c.write.ensures
+    let left = handed_back (DraftsAndLog a.self.records _ a.log.now _) (λ z. write_rule z (length a.log.now) (state_of (view a.self) [] a.drafts.now) a.handle a.cell a.value.now) c.yard_size.ensures c.handed.ensures (c.write.ensures.step, (c.write.ensures.drafts, c.write.ensures.log)) in record {
+      answer = left.0;
+      drafts = left.1.0;
+      log = left.1.1;
+    }
