@@ -4,6 +4,7 @@ ghost use Rattle.rules.specs.Sizes.{width};
 ghost use Rattle.pairs.specs.CellPass.{overlap_of};
 
 // Whether two arrays have a mark in common below the limit.
+#[tactic(auto, using(basics::proofs::Below::any_skips))]
 pub fn overlap(a: [bool; 32], b: [bool; 32], limit: usize) -> bool
     requires { limit ≤ width }
     ensures { result ≡ overlap_of a b limit }

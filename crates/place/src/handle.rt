@@ -37,6 +37,7 @@ pub fn turn_of(handle: u32) -> u32
 }
 
 // No handle at all: 2,097,152 or more, or of a place that the controller lacks.
+#[tactic(auto, using(crate::proofs::Lookup::past_handles, crate::proofs::Lookup::past_places))]
 pub fn is_out_of_range(handle: u32, z: Size) -> bool
     ensures { result ≡ out_of_range z handle }
 {

@@ -44,6 +44,7 @@ pub fn any_wrong(a: usize, x: usize, b: usize, y: usize, c: usize, w: usize) -> 
 }
 
 // 2, 3 and 4: the books and the handle, for each of the five calls that take one.
+#[tactic(auto, using(crate::proofs::Parts::unsound_first))]
 pub fn of_handle(places: [Place; 32], records: u16, z: Size, call: usize, handle: u32) -> u8
     requires within { Within z }
     requires call_bound { call < 5 }

@@ -52,6 +52,7 @@ fn is_place_sound(p: Place, records: u16, z: Size) -> bool
 }
 
 // Each place by itself.
+#[tactic(auto, using(basics::proofs::Tested::answer_passes))]
 pub fn each_sound(places: [Place; 32], records: u16, z: Size) -> bool
     requires { Within z }
     ensures { result ≡ all_below (λ i. place_sound z records (place_at (of_places places) i)) z.places }

@@ -31,6 +31,7 @@ fn is_read_sound(records: u16, begin: u16, first: u16, last: u16) -> bool
 }
 
 // The reads of every cell.
+#[tactic(auto, using(basics::proofs::Below::all_more), unfolding(rules::specs::Sound::reads_sound))]
 pub fn are_reads_sound(p: Place, records: u16, z: Size) -> bool
     requires { Within z }
     ensures { result ≡ all_below (reads_sound records p) z.cells }

@@ -27,6 +27,7 @@ fn is_apart(passes: &[bool; 64], keys: &[u16; 64], i: usize) -> bool
 }
 
 // Of the places that pass, no two have the same key, if nobody passes behind the last.
+#[tactic(auto, using(basics::proofs::Tested::answer_passes))]
 pub fn are_apart(passes: [bool; 64], keys: [u16; 64], places: usize) -> bool
     requires { places ≤ width }
     ensures { result ≡ all_below (apart passes keys) places }

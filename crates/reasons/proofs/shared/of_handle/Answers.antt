@@ -7,16 +7,12 @@ use Rattle.rules.specs.Books.{Books, books_of}
 use Rattle.rules.specs.Numbers.{Reason}
 use Rattle.rules.specs.Steps.{handle_reasons}
 use Rattle.place.specs.Rows.{caller}
-use Rattle.reasons.proofs.Parts.{unsound_first, sound_next, status_known, handle_asked}
+use Rattle.reasons.proofs.Parts.{sound_next, status_known, handle_asked}
 use Rattle.reasons.proofs.shared.of_handle.Goals as goal
 
 -- what comes after the books
 abbrev later : Size → Books → ℕ → ℕ → List Reason
 later z b call handle = handle_reasons z (caller call) b handle
-
-pub returns-then-not-are_sound : goal.returns-then-not-are_sound
-returns-then-not-are_sound c =
-    unsound_first c.args.z (books_of c.args.records c.args.places) (later c.args.z (books_of c.args.records c.args.places) c.args.call c.args.handle) c.are_sound.ensures c.if-not-are_sound.true
 
 pub lookup-requires : goal.lookup-requires
 lookup-requires c =

@@ -2,7 +2,7 @@
 -- Rests on the contract of `is_place_sound`.
 use mathlib.Core.Path.{ap}
 use mathlib.Core.Bool.{not}
-use Rattle.basics.proofs.Tested.{none_passed, answer_passes, answer_fails, all_passed}
+use Rattle.basics.proofs.Tested.{none_passed, answer_fails, all_passed}
 use Rattle.sound.proofs.clauses.each_sound.Invariants.{sound_at}
 use Rattle.sound.proofs.clauses.each_sound.Goals as goal
 
@@ -14,13 +14,6 @@ returns-then-not-is_place_sound c =
     let s = c.args in
     let answer = c.is_place_sound in
     answer_fails (sound_at s.z s.records s.places) s.z.places c.loop-i.i c.loop-i-test.true answer.result answer.ensures (ap not c.if-not-is_place_sound.true)
-
-pub loop-i-preserved : goal.loop-i-preserved
-loop-i-preserved c =
-    let s = c.args in
-    let loop = c.loop-i in
-    let answer = c.is_place_sound in
-    answer_passes (sound_at s.z s.records s.places) s.z.places loop.i c.loop-i-test.true loop.invariant answer.result answer.ensures (ap not c.if-not-is_place_sound.false)
 
 pub returns : goal.returns
 returns c =

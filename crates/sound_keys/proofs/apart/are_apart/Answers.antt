@@ -3,7 +3,7 @@
 use mathlib.Core.Path.{ap}
 use mathlib.Core.Bool.{not}
 use Rattle.sound_keys.specs.Apart.{apart}
-use Rattle.basics.proofs.Tested.{none_passed, answer_passes, answer_fails, all_passed}
+use Rattle.basics.proofs.Tested.{none_passed, answer_fails, all_passed}
 use Rattle.sound_keys.proofs.apart.are_apart.Goals as goal
 
 pub loop-i-init : goal.loop-i-init
@@ -14,13 +14,6 @@ returns-then-not-is_apart c =
     let s = c.args in
     let answer = c.is_apart in
     answer_fails (apart s.passes s.keys) s.places c.loop-i.i c.loop-i-test.true answer.result answer.ensures (ap not c.if-not-is_apart.true)
-
-pub loop-i-preserved : goal.loop-i-preserved
-loop-i-preserved c =
-    let s = c.args in
-    let loop = c.loop-i in
-    let answer = c.is_apart in
-    answer_passes (apart s.passes s.keys) s.places loop.i c.loop-i-test.true loop.invariant answer.result answer.ensures (ap not c.if-not-is_apart.false)
 
 pub returns : goal.returns
 returns c =
