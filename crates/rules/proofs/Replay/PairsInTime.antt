@@ -19,7 +19,7 @@ use Rattle.rules.specs.Day.{whose, event, events, is_transaction, day_before}
 use Rattle.rules.proofs.Log.Seats.{walks_earlier}
 use Rattle.rules.proofs.Day.Moments.{transaction_bound, uncommitted}
 use Rattle.rules.proofs.Day.Settled.{read_known}
-use Rattle.rules.proofs.Day.Events.{number_bounds, whose_starts, started, who_transaction}
+use Rattle.rules.proofs.Day.Events.{number_bounds, whose_starts, who_transaction}
 use Rattle.rules.proofs.Day.Commits.{commit_at_most}
 use Rattle.rules.proofs.Replay.InTime.{arises, pairs_in_time}
 use Rattle.rules.proofs.Day.PairsArise.{Newest, begun_before, one_more}
