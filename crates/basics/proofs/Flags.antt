@@ -1,6 +1,5 @@
 -- How a chain of tests goes: a flag answers for it, or the next test is asked. Assumes nothing.
 use mathlib.Core.Path.{◌≡◌, refl, sym, ◌∙◌}
-use mathlib.Core.Logic.{◌⊎◌, ⊎_elim}
 use mathlib.Core.Bool.{Bool, true, false, ◌&&◌, and_assoc}
 
 -- the flag t has the answer of x: of x && y it is the answer, or y is
@@ -10,10 +9,6 @@ module _ (x y t : Bool) (same : t ≡ x) where
 
   pub and_skipped : t ≡ false → t ≡ x && y
   and_skipped e = e ∙ rw (sym same ∙ e)
-
--- the flag t is y if x passes, and x if x fails
-pub and_made : (x y t : Bool) → ((x ≡ true) × (t ≡ y)) ⊎ ((x ≡ false) × (t ≡ x)) → t ≡ x && y
-and_made x y t = ⊎_elim (λ w. w.1 ∙ and_asked x y x refl w.0) (λ w. w.1 ∙ and_skipped x y x refl w.0)
 
 -- the flag t has the answer of x && y: of x && y && z it is the answer, or z is
 module _ (x y z t : Bool) (same : t ≡ x && y) where
