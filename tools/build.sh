@@ -3,7 +3,7 @@
 # than every source is left as it is. From any directory.
 #
 #   tools/build.sh NAME ..         play, report, accept, trials, measure: a program; checker: the archive libchecker.a
-#   tools/build.sh --built         takes what `rt ci` built, and proves nothing
+#   tools/build.sh --built         takes the programs that `rt ci` built, and proves nothing
 set -euo pipefail
 cd "$(dirname "${BASH_SOURCE[0]}")/.."
 mkdir -p target/bin target/staticlib
@@ -31,7 +31,7 @@ build() {
 }
 
 if [ "${1:-}" = --built ]; then
-  for name in play report accept trials measure checker; do take "$name"; done
+  for name in play report accept trials measure; do take "$name"; done
 else
   for name in "$@"; do build "$name"; done
 fi

@@ -3,6 +3,8 @@
 
 usage: respell.py [--check] FOLDER      FOLDER has crates/, README.md, docs/
 
+It is for the text that the kit's port.py leaves, where the proof of a function is still a walk (Proof.antt), and runs on no later one.
+
 It turns each name with a dash, and each word in camel case, that is declared here and not brought in from a library: in .antt and .rt files and must-fail edits
 whole, in pages and comments where a code span has it. Names of functions, modules, files, strings and goals that Rattle makes are not touched.
 --check writes nothing. Lines that begin 'meets:' tell a name that would fall together with another one in its file.
@@ -22,6 +24,7 @@ MADE = re.compile(r"(?:Need|After|Then|Else|invariant|decreases|InvT|MeasureT)-"
 
 
 def snake(name):
+    name = name.replace("getD", "get_or")
     name = re.sub(r"(?<=[a-z0-9])[A-Z]", lambda m: "_" + m[0].lower(), name)
     return name.replace("-", "_")
 
@@ -116,6 +119,9 @@ def pages(root):
 def main(argv):
     check = "--check" in argv
     root = [a for a in argv if a != "--check"][0]
+    if any(path.endswith("/Answers.antt") for path in files(root)):
+        print("respell: the proofs of functions are answers here already: nothing is turned")
+        return 2
     crates = crates_of(root)
     modules = set()
     for path in files(root):

@@ -11,7 +11,7 @@ use lib.ListN.{length, get_or, set, replicate, length-append, length-map, length
 use lib.Seq.{get_or_at, ext_get_or, get_or-set_same, get_or-set_other}
 use borrow.Author.Tests.{lt-ltb, le-ltb, ltb-true, ltb-false}
 use Rattle.basics.specs.Below.{filled_below}
-use Rattle.basics.proofs.Elements.{get_d_map_within}
+use Rattle.basics.proofs.Elements.{get_or_map_within}
 use Rattle.basics.proofs.Bools.{split, below_more, equal_or_not}
 
 -- the test "below n + 1" away from n
@@ -100,4 +100,4 @@ module _ {ℓ} {A : Type ℓ} (f : ℕ → A) (d : A) (n w : ℕ) {xs : List A} 
 pub filled_map {ℓ κ} : {A : Type ℓ} {B : Type κ} (f : A → B) (xs : List A) (a : A) (d : B) (w : ℕ) → length xs ≡ w → filled_below (λ i. f (get_or xs i a)) d w w ≡ map f xs
 filled_map f xs a d w e =
     sym (filled_is (λ i. f (get_or xs i a)) d w w (map f xs) (length-map xs f ∙ e) λ i h.
-    get_d_map_within f xs i a d (subst (λ (k : ℕ). i < k) (sym e) h) ∙ rw (lt-ltb i w h))
+    get_or_map_within f xs i a d (subst (λ (k : ℕ). i < k) (sym e) h) ∙ rw (lt-ltb i w h))

@@ -10,7 +10,7 @@ use lib.Dec.{ltb, eqb}
 use borrow.Author.Tests.{eqb-true, ltb-true, lt-ltb}
 use Rattle.basics.specs.Lists.{any_in, distinct}
 use Rattle.basics.proofs.Bools.{split, and_fails_right, cond_or, cond_not}
-use Rattle.basics.proofs.Elements.{get_d_set, set_each}
+use Rattle.basics.proofs.Elements.{get_or_set, set_each}
 use Rattle.rules.specs.declared.Record.{Record}
 use Rattle.rules.specs.declared.Size.{Size}
 use Rattle.rules.specs.Sizes.{Within, width}
@@ -39,10 +39,10 @@ listed_both b f true g h = rw (h refl)
 listed_both b f false g h = and_fails_right (b && f) false refl
 
 -- an array in which one element is set, or none
-get_d_set_if {ℓ} : {A : Type ℓ} (b : Bool) (xs : List A) (i j : ℕ) (x d : A) → j < length xs
+get_or_set_if {ℓ} : {A : Type ℓ} (b : Bool) (xs : List A) (i j : ℕ) (x d : A) → j < length xs
     → get_or (cond b (set xs i x) xs) j d ≡ cond (b && eqb j i) x (get_or xs j d)
-get_d_set_if true xs i j x d h = get_d_set xs i j x d h
-get_d_set_if false xs i j x d h = refl
+get_or_set_if true xs i j x d h = get_or_set xs i j x d h
+get_or_set_if false xs i j x d h = refl
 
 length_set_if {ℓ} : {A : Type ℓ} (b : Bool) (xs : List A) (i : ℕ) (x : A) → length (cond b (set xs i x) xs) ≡ length xs
 length_set_if true xs i x = length-set xs i x
@@ -125,7 +125,7 @@ module _ (z : Size) (t : ℕ) (order : List ℕ) (within : Within z) (once : dis
   commits_more i h =
       let commits = kind_commits r.kind in
       rw (position_only order who i once h)
-      (get_d_set_if (listed && commits) s.commit at i n 0 (omega (arith, m.commit_length))
+      (get_or_set_if (listed && commits) s.commit at i n 0 (omega (arith, m.commit_length))
       ∙ ap₂ (λ (b : Bool) (v : ℕ). cond b n v) (listed_first listed commits (eqb i at) (listed_there i h)) (m.commits i h))
 
   -- by position and cell
@@ -144,7 +144,7 @@ module _ (z : Size) (t : ℕ) (order : List ℕ) (within : Within z) (once : dis
     writes_more =
         let writes = kind_writes r.kind in
         rw (position_only order who i once h)
-        (get_d_set_if (listed && writes) s.wrote (mark at r.cell) (mark i c) n 0 (omega (arith, m.wrote_length, within_marks))
+        (get_or_set_if (listed && writes) s.wrote (mark at r.cell) (mark i c) n 0 (omega (arith, m.wrote_length, within_marks))
         ∙ ap₂ (λ (b : Bool) (v : ℕ). cond b n v) (tests_more writes) (m.writes i c h k))
 
     reads_more : get_or s'.read (mark i c) false ≡ read_cell (events (r ∷ day)) (get_or order i 0) c
@@ -152,7 +152,7 @@ module _ (z : Size) (t : ℕ) (order : List ℕ) (within : Within z) (once : dis
     reads_more =
         let reads = kind_judged_read r.kind in
         rw (position_only order who i once h)
-        (get_d_set_if (listed && reads) s.read (mark at r.cell) (mark i c) true false (omega (arith, m.read_length, within_marks))
+        (get_or_set_if (listed && reads) s.read (mark at r.cell) (mark i c) true false (omega (arith, m.read_length, within_marks))
         ∙ ap₂ (λ (b v : Bool). cond b true v) (tests_more reads) (m.reads i c h k)
         ∙ cond_or (eqb i at && (reads && eqb r.cell c)) (read_cell (events day) (get_or order i 0) c))
 

@@ -11,7 +11,7 @@ use lib.Dec.{eqb}
 use borrow.Author.Tests.{eqb-true, eqb-false, not-true}
 use Rattle.basics.specs.Lists.{any_in, member}
 use Rattle.basics.proofs.Bools.{split, clash, false_of_not, same_tests, and_left, and_right}
-use Rattle.basics.proofs.Elements.{get_d_replicate_same}
+use Rattle.basics.proofs.Elements.{get_or_replicate_same}
 use Rattle.rules.specs.declared.Record.{Record}
 use Rattle.rules.specs.declared.Size.{Size}
 use Rattle.rules.specs.Sizes.{width}
@@ -64,13 +64,13 @@ unfolding latest_write table_record seat events latest commit_of committed momen
 mirrors_fresh z t order =
     record {
       holders = λ p h k. absurd (not-suc-le-zero k);
-      commits = λ i h. get_d_replicate_same width i 0;
-      writes = λ i c h k. get_d_replicate_same (width * width) (mark i c) 0;
-      reads = λ i c h k. get_d_replicate_same (width * width) (mark i c) false;
-      tables = λ c h. get_d_replicate_same width c 0;
+      commits = λ i h. get_or_replicate_same width i 0;
+      writes = λ i c h k. get_or_replicate_same (width * width) (mark i c) 0;
+      reads = λ i c h k. get_or_replicate_same (width * width) (mark i c) false;
+      tables = λ c h. get_or_replicate_same width c 0;
       at_moment = refl;
       strangers = refl;
-      past = (λ c. omega (arith, get_d_replicate_same {A = ℕ} width c 0), λ j. omega (arith, get_d_replicate_same {A = ℕ} (width * width) j 0));
+      past = (λ c. omega (arith, get_or_replicate_same {A = ℕ} width c 0), λ j. omega (arith, get_or_replicate_same {A = ℕ} (width * width) j 0));
       holder_length = length-replicate {A = ℕ} width 0;
       commit_length = length-replicate {A = ℕ} width 0;
       wrote_length = length-replicate {A = ℕ} (width * width) 0;

@@ -23,6 +23,7 @@ fn unpack(pairs: &[u8], into: &mut [u16])
 }
 
 // The checker's number; 1 if the list's bytes are odd.
+#[tactic(auto, using(crate::proofs::Unpacked::odd_refused))]
 pub fn nogturshan_check(opening: &[u8], log: &[u8], begin: u32, list: &[u8]) -> u8
     ensures { result ≡ checked_pairs yard opening.now log.now begin list.now }
 {

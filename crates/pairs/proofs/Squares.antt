@@ -8,7 +8,7 @@ use lib.Dec.{eqb}
 use lib.ListN.{get_or, replicate}
 use Rattle.basics.specs.Below.{filled_below}
 use Rattle.basics.proofs.Bools.{split, and_fails_left, and_second}
-use Rattle.basics.proofs.Elements.{get_d_replicate_same}
+use Rattle.basics.proofs.Elements.{get_or_replicate_same}
 use Rattle.basics.proofs.Filled.{filled_at}
 use Rattle.rules.specs.declared.Size.{Size}
 use Rattle.rules.specs.Sizes.{Within, width}
@@ -46,4 +46,4 @@ module _ (z : Size) (within : Within z) (b : Books) (present : List Bool) where
   square_says k m h g =
       ap (λ (row : List Bool). get_or row k false)
       (filled_at (λ i. cond (is_in present i) (row_of z b present i) (replicate width false)) (replicate width false) z.places width m [] (omega (arith, within.places)) g)
-      ∙ split (is_in present m) (λ t. rw t (row_says k m h)) (λ t. rw t (get_d_replicate_same width k false))
+      ∙ split (is_in present m) (λ t. rw t (row_says k m h)) (λ t. rw t (get_or_replicate_same width k false))

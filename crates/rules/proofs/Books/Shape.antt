@@ -7,7 +7,7 @@ use lib.ListN.{length, replicate, length-set, length-map, get_or-replicate}
 use lib.Seq.{get_or-set_same, get_or-set_other}
 use native.Mathlib.Omega.{arith}
 use Rattle.basics.proofs.Bools.{equal_or_not}
-use Rattle.basics.proofs.Elements.{get_d_map_within}
+use Rattle.basics.proofs.Elements.{get_or_map_within}
 use Rattle.rules.specs.declared.Place.{Place}
 use Rattle.rules.specs.Sizes.{Size, Within, yard, width}
 use Rattle.rules.specs.Books.{Books, Shaped, place_at, no_place, freed, begun, posted, marked, read_marked, sealed, with_place, with_record, opened, closed, of_places, lowest_free, live_count}
@@ -73,7 +73,7 @@ place_at_opened i h = get_or-replicate width i (freed no_place) no_place h
 
 pub place_at_closed : {b : Books} (i : ℕ) → Shaped b → i < width → place_at (closed b) i ≡ freed (place_at b i)
 unfolding closed
-place_at_closed {b} i s h = get_d_map_within freed b.places i no_place no_place (inside s h)
+place_at_closed {b} i s h = get_or_map_within freed b.places i no_place no_place (inside s h)
 
 -- books that differ at one place alone: what holds of that place, and of each other as it was, holds of each
 pub each_changed : (b after : Books) (i n : ℕ) → ((j : ℕ) → j < n → j ≢ i → place_at after j ≡ place_at b j) → (P : ℕ → Place → Type 0)

@@ -10,7 +10,7 @@ use lib.Dec.{eqb}
 use native.Mathlib.Omega.{arith}
 use borrow.Author.Tests.{eqb-true, eqb-false}
 use Rattle.basics.proofs.Bools.{split, equal_or_not, never}
-use Rattle.basics.proofs.Elements.{get_d_replicate_same}
+use Rattle.basics.proofs.Elements.{get_or_replicate_same}
 use Rattle.rules.specs.declared.Place.{Place}
 use Rattle.rules.specs.Sizes.{Size, Within, width, most_records}
 use Rattle.rules.specs.Books.{Books, Shaped, place_at, is_held, first_read, last_read, first_kept, no_reads, freed, begun, posted, marked, read_marked, sealed, with_place, with_record, room_taken}
@@ -37,7 +37,7 @@ module _ (z : Size) (b : Books) (p : Place) (free : p.status ≡ 0) where
 
   -- a place that begins at that record and has no reads is sound as a held one
   no_read : (c : ℕ) → get_or no_reads c 0 ≡ 0
-  no_read c = get_d_replicate_same width c 0
+  no_read c = get_or_replicate_same width c 0
 
   held_unread : (q : Place) → q.begin ≡ n → q.first ≡ no_reads → q.last ≡ no_reads → HeldSound z n q
   held_unread q begins first last = (omega arith, (omega arith, λ c h. inl (rw first (no_read c), rw last (no_read c))))

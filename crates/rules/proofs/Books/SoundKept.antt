@@ -7,7 +7,7 @@ use lib.Dec.{eqb}
 use native.Mathlib.Omega.{arith}
 use borrow.Author.Tests.{eqb-true}
 use Rattle.basics.proofs.Below.{count_nobody}
-use Rattle.basics.proofs.Elements.{get_d_replicate_same, get_d_map_all}
+use Rattle.basics.proofs.Elements.{get_or_replicate_same, get_or_map_all}
 use Rattle.rules.specs.declared.Place.{Place}
 use Rattle.rules.specs.Sizes.{Size, width, most_records}
 use Rattle.rules.specs.Books.{Books, place_at, no_place, is_live, freed, opened, closed, live_count, room_taken}
@@ -43,7 +43,7 @@ blank_no_place z = (refl, (refl, (refl, λ c h. (refl, (refl, refl)))))
 pub blank_freed : (z : Size) (p : Place) → Blank z (freed p)
 unfolding freed
 blank_freed z p =
-    (refl, (refl, (refl, λ c h. (get_d_replicate_same width c false, (get_d_replicate_same width c 0, get_d_replicate_same width c 0)))))
+    (refl, (refl, (refl, λ c h. (get_or_replicate_same width c false, (get_or_replicate_same width c 0, get_or_replicate_same width c 0)))))
 
 -- ---- opened and closed books
 
@@ -51,7 +51,7 @@ pub sound_closed : (z : Size) (b : Books) → sound z (closed b) ≡ true
 unfolding closed
 sound_closed z b =
     (sound_says z (closed b)).1
-    (blank_sound z (closed b) (λ i h. get_d_map_all (Blank z) freed b.places i no_place (blank_no_place z) (blank_freed z)) (omega arith))
+    (blank_sound z (closed b) (λ i h. get_or_map_all (Blank z) freed b.places i no_place (blank_no_place z) (blank_freed z)) (omega arith))
 
 pub sound_opened : (z : Size) → sound z opened ≡ true
 unfolding opened closed

@@ -11,7 +11,7 @@ use Rattle.basics.specs.Bytes.{AreBytes}
 use Rattle.basics.proofs.Bools.{clash}
 use Rattle.basics.proofs.Bytes.{zeros_are_bytes}
 use Rattle.basics.proofs.Each.{each_none, each_cons, every_none, every_more}
-use Rattle.basics.proofs.Elements.{get_d_replicate_all, get_d_replicate_same, get_d_map_all}
+use Rattle.basics.proofs.Elements.{get_or_replicate_all, get_or_replicate_same, get_or_map_all}
 use Rattle.rules.specs.declared.Place.{Place}
 use Rattle.rules.specs.declared.Record.{Record}
 use Rattle.rules.specs.Sizes.{Size, Within, cell_bytes, table_bytes, drafts_bytes, turns, width}
@@ -36,11 +36,11 @@ NobodyLive b = (i : ℕ) → is_live (place_at b i) ≡ false
 
 pub nobody_opened : NobodyLive opened
 unfolding opened freed
-nobody_opened i = get_d_replicate_all (λ p. is_live p ≡ false) width i (freed no_place) no_place refl refl
+nobody_opened i = get_or_replicate_all (λ p. is_live p ≡ false) width i (freed no_place) no_place refl refl
 
 pub nobody_closed : (b : Books) → NobodyLive (closed b)
 unfolding closed freed
-nobody_closed b i = get_d_map_all (λ p. is_live p ≡ false) freed b.places i no_place refl (λ p. refl)
+nobody_closed b i = get_or_map_all (λ p. is_live p ≡ false) freed b.places i no_place refl (λ p. refl)
 
 pub nobody_at_start : (b : Books) → DayStarts b → NobodyLive b
 nobody_at_start b = ⊎_elim (λ e. rw e nobody_opened) (λ x. rw x.2 (nobody_closed x.0))
@@ -161,7 +161,7 @@ stays_posted p q c n live = absurd (false≢true live)
 
 pub stays_begun : (p q : Place) (n : ℕ) → StaysLive p (begun q n)
 unfolding begun
-stays_begun p q n live c w = absurd (clash w (get_d_replicate_same width c false))
+stays_begun p q n live c w = absurd (clash w (get_or_replicate_same width c false))
 
 pub stays_read_marked : (p : Place) (c n : ℕ) → StaysLive p (read_marked p c n)
 unfolding read_marked

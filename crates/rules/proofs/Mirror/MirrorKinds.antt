@@ -10,7 +10,7 @@ use native.Mathlib.Omega.{arith}
 use borrow.Author.Tests.{eq-eqb, ne_eqb}
 use Rattle.basics.proofs.Bools.{never}
 use Rattle.basics.specs.Lists.{member}
-use Rattle.basics.proofs.Elements.{get_d_replicate_same, get_d_set_all}
+use Rattle.basics.proofs.Elements.{get_or_replicate_same, get_or_set_all}
 use Rattle.basics.proofs.Lists.{member_nil, member_head, member_cons}
 use Rattle.rules.specs.declared.Place.{Place}
 use Rattle.rules.specs.declared.Record.{Record}
@@ -42,7 +42,7 @@ module _ (z : Size) (n : ℕ) (p : Place) where
   changes_posted c inside =
       record {
         written = λ k h.
-            get_d_set_all (λ x. eqb c k || get_or no_cells k false ≡ x) no_cells c k true false inside (λ e. rw (eq-eqb c k e)) (λ o. rw (ne_eqb c k o));
+            get_or_set_all (λ x. eqb c k || get_or no_cells k false ≡ x) no_cells c k true false inside (λ e. rw (eq-eqb c k e)) (λ o. rw (ne_eqb c k o));
         sealed = refl;
         commit = refl;
         first = λ k h. zero_or (get_or no_reads k 0);
@@ -55,7 +55,7 @@ module _ (z : Size) (n : ℕ) (p : Place) where
   changes_marked c inside =
       record {
         written = λ k h.
-            get_d_set_all (λ x. eqb c k || wrote p k ≡ x) p.written c k true false inside (λ e. rw (eq-eqb c k e)) (λ o. rw (ne_eqb c k o));
+            get_or_set_all (λ x. eqb c k || wrote p k ≡ x) p.written c k true false inside (λ e. rw (eq-eqb c k e)) (λ o. rw (ne_eqb c k o));
         sealed = refl;
         commit = refl;
         first = λ k h. zero_or (first_read p k);
@@ -79,10 +79,10 @@ module _ (z : Size) (n : ℕ) (p : Place) where
         sealed = refl;
         commit = refl;
         first = λ k h.
-            get_d_set_all (λ x. cond (eqb (first_read p k) 0) (cond (eqb c k) n 0) (first_read p k) ≡ x) p.first c k _ 0 (omega (arith, w.first))
+            get_or_set_all (λ x. cond (eqb (first_read p k) 0) (cond (eqb c k) n 0) (first_read p k) ≡ x) p.first c k _ 0 (omega (arith, w.first))
             (λ e. rw (eq-eqb c k e, e)) (λ o. rw (ne_eqb c k o) (zero_or (first_read p k)));
         last = λ k h.
-            get_d_set_all (λ x. cond (eqb c k) n (last_read p k) ≡ x) p.last c k n 0 (omega (arith, w.last)) (λ e. rw (eq-eqb c k e))
+            get_or_set_all (λ x. cond (eqb c k) n (last_read p k) ≡ x) p.last c k n 0 (omega (arith, w.last)) (λ e. rw (eq-eqb c k e))
             (λ o. rw (ne_eqb c k o));
       }
 
@@ -92,7 +92,7 @@ module _ (z : Size) (n : ℕ) (p : Place) where
 cells_more : (cells : List ℕ) (marks : List Bool) (c k : ℕ) → c < length marks → member k cells ≡ get_or marks k false
     → member k (c ∷ cells) ≡ get_or (set marks c true) k false
 cells_more cells marks c k inside same =
-    get_d_set_all (λ x. member k (c ∷ cells) ≡ x) marks c k true false inside (λ e. member_head k c cells (sym e))
+    get_or_set_all (λ x. member k (c ∷ cells) ≡ x) marks c k true false inside (λ e. member_head k c cells (sym e))
     (λ o. member_cons k c cells ∙ rw (ne_eqb k c (λ e. o (sym e))) same)
 
 module _ (z : Size) (day : List Record) (i : ℕ) (p : Place) where
@@ -119,7 +119,7 @@ module _ (z : Size) (day : List Record) (i : ℕ) (p : Place) where
     unfolding begun moved kind_starts kind_commits kind_writes kind_frees
     mirrors_begun =
         starts (record_at begin_kind i (begun p n) 0 no_value) (begun p n) refl refl refl
-        (record { begin = refl; turn = refl; cells = λ k h. member_nil k ∙ sym (get_d_replicate_same width k false) }) (changes_begun z n p)
+        (record { begin = refl; turn = refl; cells = λ k h. member_nil k ∙ sym (get_or_replicate_same width k false) }) (changes_begun z n p)
 
     pub mirrors_posted : (c : ℕ) (value : List ℕ) → c < width → Mirrors z (record_at post_kind i (posted p c n) c value ∷ day) i (posted p c n)
     unfolding posted moved kind_starts kind_commits kind_writes kind_frees
@@ -128,7 +128,7 @@ module _ (z : Size) (day : List Record) (i : ℕ) (p : Place) where
         (record {
           begin = refl;
           turn = refl;
-          cells = λ k h. cells_more [] no_cells c k inside (member_nil k ∙ sym (get_d_replicate_same width k false));
+          cells = λ k h. cells_more [] no_cells c k inside (member_nil k ∙ sym (get_or_replicate_same width k false));
         })
         (changes_posted z n p c inside)
 

@@ -7,12 +7,9 @@ use lib.ListN.{length, replicate}
 use lib.Seq.{length-take-le}
 use Rattle.rules.specs.Sizes.{yard}
 use Rattle.rules.specs.Checker.{checked}
-use Rattle.checker.proofs.Unpacked.{Counted, counted_most, counted_within, front_room, front_read, counted_alike, odd_refused}
+use Rattle.checker.proofs.Unpacked.{Counted, counted_most, counted_within, front_room, front_read, counted_alike}
 use Rattle.checker.proofs.desk.nogturshan_check.Goals as goal
 use Rattle.checker.proofs.desk.nogturshan_check.Goals.{then-all-lt-MOST_KEPT, else-all-lt-MOST_KEPT}
-
-pub returns-then-list-ne0 : goal.returns-then-list-ne0
-returns-then-list-ne0 c = let a = c.args in odd_refused a.opening.now a.log.now a.list.now a.begin c.if-list-ne0.true
 
 pub slice_bounds-numbers-end : goal.slice_bounds-numbers-end
 slice_bounds-numbers-end c =
