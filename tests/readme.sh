@@ -1,7 +1,7 @@
 #!/usr/bin/env bash
 # README.md as a new user follows it: its commands that build, play, report, check and link are run as they stand there, in their order, and
 # print what it shows. A command's answer may stand behind it (`# accepted`); every other line of its blocks is a line that some command
-# prints. From any directory. They run in a copy of the checkout, with what is proved in it, and touch no file of the checkout itself.
+# prints. From any directory. They run in a copy of the checkout, with what is built in it, and touch no file of the checkout itself.
 set -euo pipefail
 cd "$(dirname "${BASH_SOURCE[0]}")/.."
 scratch=$(mktemp -d)
