@@ -1,75 +1,57 @@
--- Laws of the words that are given as numbers, of the numbers that are kept, of a day that is cut short, and of the line that is answered.
--- Assumes nothing.
+-- Laws of the numbers that are kept, of a day that is cut short, and of the line that is answered. Assumes nothing.
 use Prim.Native.Nat.{ℕ, ◌+◌, ◌≤◌, ◌<◌}
-use mathlib.Core.Path.{◌≡◌, refl, ap}
-use mathlib.Core.Bool.{false}
-use mathlib.Core.List.{List, [], ◌∷◌}
+use mathlib.Core.Path.{◌≡◌, sym, ◌∙◌, ap}
+use mathlib.Core.List.{List, [], ◌∷◌, ◌++◌}
+use native.Mathlib.Numerals.{add-one}
 use native.Mathlib.Omega.{arith}
-use lib.ListN.{length, take, set}
-use lib.Seq.{take_all}
-use borrow.Author.Tests.{eq-eqb, ne_eqb, lt-ltb, le-ltb, lt-leb, le-leb}
+use lib.ListN.{length, take, set, length-append}
+use lib.Seq.{take_all, length-take-le, take-suc-set}
+use borrow.Author.Tests.{ne_eqb}
+use Rattle.std.proofs.lemmas.List.{take-append-le}
 use Rattle.basics.specs.Text.{text}
-use Rattle.rules.specs.declared.Size.{Size}
-use Rattle.rules.specs.Sizes.{table_bytes}
+use Rattle.rules.specs.declared.refusal.Refusal.{Refusal}
+use Rattle.rules.specs.Sizes.{yard}
 use Rattle.rules.specs.Numbers.{lent, first_reason}
+use Rattle.rules.specs.Refusals.{number_of}
 use Rattle.rules.specs.Checker.{checked}
 use Rattle.rules.specs.Report.{refused_line}
-use Rattle.script.specs.Numeral.{no_number, number_of}
-use Rattle.texts.specs.Placed.{with_text, after_text}
-use Rattle.texts.specs.Said.{joined}
+use Rattle.rules.proofs.Answered.{refuses}
+use Rattle.texts.specs.Said.{placed, joined}
 use Rattle.texts.proofs.Fitting.{all_fit}
-use Rattle.texts.proofs.Saying.{one_placed}
-use Rattle.accept.specs.declared.list.Numbers.{Numbers}
-use Rattle.accept.specs.Words.{word_number, most_kept, with_number, answer_line}
-
--- ---- a word
-
-module _ (word : List ℕ) (most : ℕ) where
-  pub empty_word : length word ≡ 0 → no_number ≡ word_number word most
-  unfolding word_number
-  empty_word e = rw (eq-eqb (length word) 0 e)
-
-  module _ (some : length word ≡ 0 → ⊥) {n : ℕ} (named : n ≡ number_of word) where
-    pub small_word : n ≤ most → n ≡ word_number word most
-    unfolding word_number
-    small_word h = rw (ne_eqb (length word) 0 some, ← named, le-leb n most h)
-
-    pub large_word : most < n → no_number ≡ word_number word most
-    unfolding word_number
-    large_word h = rw (ne_eqb (length word) 0 some, ← named, lt-leb n most h)
+use Rattle.accept.specs.Words.{most_kept, with_last, answer_line}
 
 -- ---- the numbers that are kept
 
-module _ (n : ℕ) (from : Numbers) where
-  pub wrong_word : 65535 < n → record { kept = from.kept; count = from.count; right = false } ≡ with_number n from
-  unfolding with_number
-  wrong_word h = rw (lt-ltb 65535 n h)
+module _ (n : ℕ) (kept : List ℕ) (count : ℕ) (whole : length kept ≡ most_kept) where
+  pub one_kept : count < most_kept → take (count + 1) (set kept count n) ≡ with_last n (take count kept)
+  unfolding with_last
+  one_kept h =
+      let all = take count kept ++ (n ∷ []) in
+      let size = length-append (take count kept) (n ∷ []) in
+      let front = length-take-le count kept (omega arith) in
+      rw add-one (take-suc-set kept count n (omega arith)) ∙ sym (take_all most_kept all (omega arith))
 
-  pub one_kept : n ≤ 65535 → from.count < most_kept
-      → record { kept = set from.kept from.count n; count = from.count + 1; right = from.right } ≡ with_number n from
-  unfolding with_number
-  one_kept h k = rw (le-ltb 65535 n h, lt-ltb from.count most_kept k)
-
-  pub none_kept : n ≤ 65535 → most_kept ≤ from.count → from ≡ with_number n from
-  unfolding with_number
-  none_kept h k = rw (le-ltb 65535 n h, le-ltb from.count most_kept k)
+  pub none_kept : count ≡ most_kept → take count kept ≡ with_last n (take count kept)
+  unfolding with_last
+  none_kept e =
+      let all : take count kept ≡ kept = take_all count kept (omega arith) in
+      rw all (sym (take-append-le most_kept kept (n ∷ []) (omega arith) ∙ take_all most_kept kept (omega arith)))
 
 -- ---- a day that is cut short
 
-pub day_short : (z : Size) (input log : List ℕ) (begin : ℕ) (order : List ℕ) → length input < table_bytes z
-    → lent ≡ checked z (take (table_bytes z) input) log begin order
+pub day_short : (input log : List ℕ) (begin : ℕ) (order : List ℕ) → length input < 256 → lent ≡ checked yard (take 256 input) log begin order
 unfolding checked first_reason
-day_short z input log begin order h =
-    let all = take_all (table_bytes z) input (omega arith) in
-    rw (ne_eqb (length (take (table_bytes z) input)) (table_bytes z) (λ e. absurd (omega (arith, e, ap length all))))
+day_short input log begin order h =
+    let all = take_all 256 input (omega arith) in
+    rw (ne_eqb (length (take 256 input)) 256 (λ e. absurd (omega (arith, e, ap length all))))
 
 -- ---- the line
 
 -- `accepted` is put into a buffer that has room for it
-pub accepted_line : (out : List ℕ) (number : ℕ) → number ≡ 0 → 16 ≤ length out → take (after_text (length out) 0 9) (with_text out 0 (text "accepted\n")) ≡ answer_line number
+pub accepted_line : (out : List ℕ) {last : List ℕ} {end : ℕ} → (last, end) ≡ placed out 0 (text "accepted\n" ∷ []) → 16 ≤ length out → take end last ≡ answer_line 0
 unfolding text answer_line joined
-accepted_line out number e h = rw (eq-eqb number 0 e) (all_fit out (text "accepted\n" ∷ []) (one_placed out 0 (text "accepted\n") refl refl) (omega arith))
+accepted_line out e h = all_fit out (text "accepted\n" ∷ []) e (omega arith)
 
-pub refused_answer : (number : ℕ) → (number ≡ 0 → ⊥) → refused_line number ≡ answer_line number
+pub refused_answer : (r : Refusal) → refused_line (number_of r) ≡ answer_line (number_of r)
 unfolding answer_line
-refused_answer number h = rw (ne_eqb number 0 h)
+refused_answer r = rw (ne_eqb (number_of r) 0 (λ e. omega (arith, refuses r, e)))

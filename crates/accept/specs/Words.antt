@@ -1,31 +1,32 @@
 -- The words that the program `accept` is given as numbers, and the line that it answers.
-use Rattle.std.specs.Prelude.{ℕ, ◌+◌, ◌≤◌, ◌≡◌, true, false, cond, List, eqb, leb, ltb, length, replicate, set}
+use Rattle.std.specs.Prelude.{ℕ, ◌+◌, cond, List, [], ◌∷◌, ◌++◌, eqb, ltb, length, take, replicate, set}
 use Rattle.basics.specs.Text.{text}
 use Rattle.rules.specs.Report.{refused_line}
 use Rattle.script.specs.Numeral.{no_number, number_of}
-use Rattle.accept.specs.declared.list.Numbers.{Numbers}
 
--- the number that a word names, if it is at most the greatest asked for; an empty word names none
-unfoldable pub word_number : List ℕ → ℕ → ℕ
-word_number word most = cond (eqb (length word) 0) no_number (cond (leb (number_of word) most) (number_of word) no_number)
+-- the number that a word names; an empty word names none
+unfoldable pub word_number : List ℕ → ℕ
+word_number word = cond (eqb (length word) 0) no_number (number_of word)
+
+-- the number of 16 bits that a word names; a larger number is none
+unfoldable pub small_number : List ℕ → ℕ
+small_number word = cond (ltb (word_number word) 65536) (word_number word) no_number
 
 -- how many numbers are kept: one more than an order can have
 abbrev pub most_kept : ℕ
 most_kept = 33
 
--- the numbers that are kept stand in their room
-abbrev pub Roomy : Numbers → Type 0
-Roomy numbers = (length numbers.kept ≡ most_kept) × (numbers.count ≤ most_kept)
+-- no number yet: the room for the numbers, and how many of them stand in it
+abbrev pub none_listed : List ℕ × ℕ
+none_listed = (replicate most_kept 0, 0)
 
--- no word yet
-abbrev pub none_listed : Numbers
-none_listed = record { kept = replicate most_kept 0; count = 0; right = true }
+-- one number more, put behind those that stand in the room; a full room stays as it is
+unfoldable pub with_number : ℕ → List ℕ × ℕ → List ℕ × ℕ
+with_number n (kept, count) = cond (ltb count most_kept) (set kept count n, count + 1) (kept, count)
 
--- one word more: a number of 16 bits is kept while there is room, and any other is wrong
-unfoldable pub with_number : ℕ → Numbers → Numbers
-with_number n from =
-    cond (ltb 65535 n) (record { kept = from.kept; count = from.count; right = false })
-    (cond (ltb from.count most_kept) (record { kept = set from.kept from.count n; count = from.count + 1; right = from.right }) from)
+-- the numbers that are kept, with one more if there is room
+unfoldable pub with_last : ℕ → List ℕ → List ℕ
+with_last n numbers = take most_kept (numbers ++ (n ∷ []))
 
 -- `accepted`, or `refused` and the number
 unfoldable pub answer_line : ℕ → List ℕ

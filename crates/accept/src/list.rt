@@ -1,55 +1,71 @@
 // The numbers of a proposed order, word by word.
-ghost use Rattle.std.specs.Prelude.{◌≡◌, ◌≤◌};
-ghost use Rattle.script.specs.Numeral.{no_number};
-ghost use Rattle.accept.specs.Words.{word_number, Roomy, none_listed, with_number};
+ghost use Rattle.std.specs.Prelude.{◌≡◌, ◌≤◌, [], take};
+ghost use Rattle.script.specs.Numeral.{named};
+ghost use Rattle.accept.specs.Words.{word_number, small_number, most_kept, none_listed, with_number, with_last};
 
 use checker::proposal::MOST_KEPT;
 use script::numbers;
 
-// The first numbers, how many they are, and whether every word so far is a number.
+// The number of 32 bits that a word names; an empty word names none.
+#[tactic(auto, unfolding(crate::specs::Words::word_number))]
+pub fn number_of(word: &[u8]) -> Option<u32>
+    ensures { named result ≡ word_number word.now }
+{
+    if word.is_empty() {
+        return None;
+    }
+    numbers::number_of(word)
+}
+
+// The number of 16 bits that a word names.
+#[tactic(auto, unfolding(crate::specs::Words::small_number))]
+pub fn small_of(word: &[u8]) -> Option<u16>
+    ensures { named result ≡ small_number word.now }
+{
+    u16::try_from(number_of(word)?).ok()
+}
+
+// The first numbers, and how many they are: an array of fixed length, since nothing is allocated.
 #[derive(Clone, Copy)]
 pub struct Numbers {
     pub kept: [u16; MOST_KEPT],
     pub count: usize,
-    pub right: bool,
+    ghost within: { count ≤ most_kept },
 }
 
-// The number that a word names, if it is at most the greatest asked for; else what stands for no number.
-pub fn number_of(word: &[u8], most: u64) -> u64
-    ensures { (result ≡ word_number word.now most) × (result ≤ no_number) }
-{
-    if word.len() == 0 {
-        return numbers::NO_NUMBER;
+impl Numbers {
+    // No number yet.
+    pub fn none() -> Numbers
+        ensures whole { (result.kept, result.count) ≡ none_listed }
+        ensures listed { take result.count result.kept ≡ [] }
+    {
+        Numbers {
+            kept: [0; MOST_KEPT],
+            count: 0,
+        }
     }
-    let n = numbers::number_of(word);
-    if n <= most { n } else { numbers::NO_NUMBER }
-}
 
-// No word yet.
-pub fn none() -> Numbers
-    ensures { (result ≡ none_listed) × Roomy result }
-{
-    Numbers {
-        kept: [0; MOST_KEPT],
-        count: 0,
-        right: true,
+    // One number more, if there is room.
+    #[tactic(auto, using(crate::proofs::Listing::one_kept, crate::proofs::Listing::none_kept), unfolding(crate::specs::Words::with_number))]
+    pub fn with(self, n: u16) -> Numbers
+        ensures whole { (result.kept, result.count) ≡ with_number n (self.kept, self.count) }
+        ensures listed { take result.count result.kept ≡ with_last n (take self.count self.kept) }
+    {
+        let Numbers { mut kept, count } = self;
+        if count == MOST_KEPT {
+            return self;
+        }
+        kept[count] = n;
+        Numbers {
+            kept,
+            count: count + 1,
+        }
     }
-}
 
-// One word more, by its number.
-pub fn with(from: Numbers, n: u64) -> Numbers
-    requires { Roomy from }
-    ensures { (result ≡ with_number n from) × Roomy result }
-{
-    let mut next = from;
-    if n > 65535 {
-        next.right = false;
-        return next;
+    // The numbers that are kept.
+    pub fn listed(&self) -> &[u16]
+        ensures { result.now ≡ take self.now.count self.now.kept }
+    {
+        &self.kept[..self.count]
     }
-    let at = from.count;
-    if at < MOST_KEPT {
-        next.kept[at] = n as u16;
-        next.count = at + 1;
-    }
-    next
 }

@@ -4,55 +4,44 @@
 mod answer;
 mod list;
 
-ghost use Rattle.accept.specs.Words.{Roomy};
-
 use list::Numbers;
-use rules::numbers::LENT;
+use rules::refusal::Refusal;
 use rules::sizes;
 use texts::buffer;
 
-// The number that an argument names; none for an argument that is missing or has more than 4,096 bytes.
-fn number_at(rt: &HostRuntime, i: usize, most: u64) -> u64 {
-    let mut word = [0u8; 4096];
-    let n = console::argument(rt, i, &mut word);
-    list::number_of(&word[..n], most)
+// The word that an argument is, put into a room; none for an argument that is missing or has more than 4,096 bytes.
+fn word_at<'a>(rt: &HostRuntime, i: usize, room: &'a mut [u8; 4096]) -> Option<&'a [u8]> {
+    let n = console::argument(rt, i, room)?;
+    Some(&room[..n])
 }
 
-// The numbers of the order: every argument from the second on.
-fn order(rt: &HostRuntime) -> Numbers
-    ensures { Roomy result }
-{
-    let count = console::argument_count(rt);
-    let mut numbers = list::none();
-    let mut i = 2;
-    while i < count {
-        numbers = list::with(numbers, number_at(rt, i, 65535));
-        i += 1;
+// The numbers of the order: every argument from the second on. None if one of them is no number of 16 bits.
+fn order(rt: &HostRuntime) -> Option<Numbers> {
+    let mut room = [0u8; 4096];
+    let mut numbers = Numbers::none();
+    for i in 2..console::argument_count(rt) {
+        let n = list::small_of(word_at(rt, i, &mut room)?)?;
+        numbers = numbers.with(n);
     }
-    numbers
+    Some(numbers)
 }
 
-// The checker's number for what is read from standard input. A saved day has at most 256 + 64,016 bytes. One byte more is read, so that a
+// The checker's answer for what is read from standard input. A saved day has at most 256 + 64,016 bytes. One byte more is read, so that a
 // longer one is seen to be badly laid out.
-fn ask(rt: &HostRuntime, begin: u32, numbers: Numbers) -> u8
-    requires { Roomy numbers }
-{
+fn ask(rt: &HostRuntime, begin: u32, numbers: &Numbers) -> Result<(), Refusal> {
     let mut input = [0u8; sizes::TABLE_BYTES + sizes::LOG_BYTES + 1];
     let n = console::read_full(rt, &mut input);
-    answer::checked(&input[..n], begin, numbers)
+    answer::of_day(&input[..n], begin, numbers.listed())
 }
 
-// The number to answer: 1, before all else, if a word is no number.
-fn decide(rt: &HostRuntime) -> u8 {
-    let begin = number_at(rt, 1, 4294967295);
-    let numbers = order(rt);
-    if begin > 4294967295 {
-        return LENT;
-    }
-    if !numbers.right {
-        return LENT;
-    }
-    ask(rt, begin as u32, numbers)
+// What is answered: lent, before all else, if a word is no number.
+fn decide(rt: &HostRuntime) -> Result<(), Refusal> {
+    let mut room = [0u8; 4096];
+    let begin = word_at(rt, 1, &mut room)
+        .and_then(list::number_of)
+        .ok_or(Refusal::Lent)?;
+    let numbers = order(rt).ok_or(Refusal::Lent)?;
+    ask(rt, begin, &numbers)
 }
 
 fn main(rt: HostRuntime) {

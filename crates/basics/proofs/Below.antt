@@ -234,12 +234,6 @@ module _ (f : ℕ → ℕ) where
   unfolding greatest_below
   greatest_more n = rw add-one
 
-  pub greatest_taken : (n r x : ℕ) → r ≡ greatest_below f n → r < f n → x ≡ f n → x ≡ greatest_below f (n + 1)
-  greatest_taken n r x e h q = omega (arith, greatest_more n)
-
-  pub greatest_kept : (n r x : ℕ) → r ≡ greatest_below f n → f n ≤ r → x ≡ r → x ≡ greatest_below f (n + 1)
-  greatest_kept n r x e h q = omega (arith, greatest_more n)
-
   -- it is at least each, and no more than a bound of all
   pub greatest_at : (n i : ℕ) → i < n → f i ≤ greatest_below f n
   unfolding greatest_below
@@ -268,14 +262,6 @@ module _ {ℓ} {A : Type ℓ} where
   pub run_more : (f : ℕ → A → A) (n : ℕ) (a : A) → run_below f (n + 1) a ≡ f n (run_below f n a)
   unfolding run_below
   run_more f n a = rw add-one
-
-  -- a run so far, and what its next step makes of it
-  pub run_next : (f : ℕ → A → A) (n : ℕ) (first : A) {now after : A} → now ≡ run_below f n first → after ≡ f n now → after ≡ run_below f (n + 1) first
-  run_next f n first so_far step = step ∙ ap (f n) so_far ∙ sym (run_more f n first)
-
-  -- a run that has come to its limit
-  pub run_whole : (f : ℕ → A → A) (n limit : ℕ) (first : A) {now : A} → now ≡ run_below f n first → n ≡ limit → now ≡ run_below f limit first
-  run_whole f n limit first so_far end = so_far ∙ ap (λ (k : ℕ). run_below f k first) end
 
   pub run_cong : (f g : ℕ → A → A) (n : ℕ) (a : A) → ((i : ℕ) → i < n → (b : A) → f i b ≡ g i b) → run_below f n a ≡ run_below g n a
   unfolding run_below

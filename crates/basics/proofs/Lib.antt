@@ -8,7 +8,6 @@ pub mod Elements
 pub mod Eliminated
 pub mod Elimination
 pub mod Filled
-pub mod Flags
 pub mod Indexed
 pub mod Lists
 pub mod Parted

@@ -2,7 +2,7 @@
 -- Assumes nothing.
 use mathlib.Core.Path.{◌≡◌, sym, ◌∙◌, subst}
 use mathlib.Core.Logic.{◌⊎◌, inl, inr}
-use mathlib.Core.Bool.{Bool, true, false, cond, ◌&&◌}
+use mathlib.Core.Bool.{Bool, true, false, ◌&&◌}
 use Prim.Native.Nat.{ℕ, zero, suc, ◌+◌, ◌<◌, ◌≤◌}
 use native.Mathlib.Nat.{not-suc-le-zero, le_refl}
 use native.Mathlib.Decide.{dec_lt}
@@ -69,18 +69,6 @@ module _ (p : ℕ → Bool) where
 
   pub least_none : (n : ℕ) → ((j : ℕ) → j < n → p j ≡ false) → least_below p n ≡ n
   least_none n f = least_unique (least_is n) (record { most = le_refl n; passes = λ k. absurd (omega arith); fails = f })
-
-  -- one more, where none was found before
-  pub least_more : (n : ℕ) → least_below p n ≡ n → least_below p (n + 1) ≡ cond (p n) n (n + 1)
-  unfolding least_below
-  least_more n e = rw (add-one, le-ltb (least_below p n) n (omega arith))
-
-  -- a search that has found nobody so far: the next one is found, or passed over
-  pub least_first : (n i : ℕ) → i < n → least_below p i ≡ i → p i ≡ true → least_below p n ≡ i
-  least_first n i h e t = least_found n i h t (λ j k. (least_is i).fails j (omega arith))
-
-  pub least_skips : (n : ℕ) → least_below p n ≡ n → p n ≡ false → least_below p (n + 1) ≡ n + 1
-  least_skips n e f = least_more n e ∙ rw f
 
   -- the fields of the least, one by one
   pub least_at_most : (n : ℕ) → least_below p n ≤ n

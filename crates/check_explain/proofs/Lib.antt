@@ -1,3 +1,1 @@
 pub mod Compared
-pub mod Explaining
-pub mod Sources

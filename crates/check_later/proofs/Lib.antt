@@ -1,1 +1,1 @@
-pub mod Overtaking
+pub mod Numbered

@@ -1,100 +1,91 @@
 // Who is listed later than a position, and has already done what would put it before the one that stands there. It is told by what a replay
-// keeps of each position: its commit record, its latest write of each cell, and whether it made a judged read of it.
+// keeps of each listed transaction: its commit record, its latest write of each cell, and whether it made a judged read of it.
 ghost use Rattle.std.specs.Prelude.{◌≡◌, ◌<◌, ◌≤◌};
-ghost use Rattle.rules.specs.Sizes.{Within, width};
-ghost use Rattle.check_later.specs.Later.{committed_later, used_later, any_used_later, overtaken};
+ghost use Rattle.rules.specs.Sizes.{width};
+ghost use Rattle.check_later.specs.Later.{used, committed_later, used_later, any_used_later, overtaken};
 
+use check_replay::state::Listed;
 use log_bytes::kinds;
-use rules::{Size, sizes};
+use rules::Limits;
 
-// Somebody listed later has committed.
-pub fn is_committed_later(commit: &[u16; 32], at: usize, count: usize) -> bool
-    requires { count ≤ width }
-    ensures { result ≡ committed_later commit.now at count }
-{
-    let mut i = 0;
-    while i < count {
-        if (at < i) & (commit[i] != 0) {
-            return true;
-        }
-        i += 1;
-    }
-    false
+// What counts as a use of a cell: a commit of it, or a judged read of it too.
+#[derive(Clone, Copy, PartialEq, Eq)]
+pub enum Uses {
+    Commits,
+    CommitsAndReads,
 }
 
-// Somebody listed later has committed the cell or, where reads count, made a judged read of it.
+// A listed transaction has used a cell.
+fn has_used(own: &Listed, cell: usize, uses: Uses) -> bool
+    requires { cell < width }
+    ensures { result ≡ used uses cell own.now }
+{
+    let reads = uses == Uses::CommitsAndReads;
+    (own.commit.is_some() && own.wrote[cell].is_some()) || (reads && own.read[cell])
+}
+
+// Somebody listed later has committed.
+pub fn is_committed_later(listed: &[Listed; 32], at: usize, count: usize) -> bool
+    requires { count ≤ width }
+    ensures { result ≡ committed_later listed.now at count }
+{
+    listed[..count]
+        .iter()
+        .enumerate()
+        .any(|(i, own)| at < i && own.commit.is_some())
+}
+
+// Somebody listed later has used the cell.
 pub fn is_used_later(
-    commit: &[u16; 32],
-    wrote: &[u16; 1024],
-    read: &[bool; 1024],
+    listed: &[Listed; 32],
     cell: usize,
+    uses: Uses,
     at: usize,
     count: usize,
-    reads: bool,
 ) -> bool
     requires { (count ≤ width) × (cell < width) }
-    ensures { result ≡ used_later commit.now wrote.now read.now cell at count reads }
+    ensures { result ≡ used_later listed.now cell uses at count }
 {
-    let mut i = 0;
-    while i < count {
-        let mark = sizes::WIDTH * i + cell;
-        let committed = (commit[i] != 0) & (wrote[mark] != 0);
-        if (at < i) & (committed | (reads & read[mark])) {
-            return true;
-        }
-        i += 1;
-    }
-    false
+    listed[..count]
+        .iter()
+        .enumerate()
+        .any(|(i, own)| at < i && has_used(own, cell, uses))
 }
 
 // Somebody listed later has used one of the cells that the one at the position has written.
-pub fn is_any_used_later(
-    commit: &[u16; 32],
-    wrote: &[u16; 1024],
-    read: &[bool; 1024],
-    at: usize,
-    count: usize,
-    z: Size,
-) -> bool
-    requires within { Within z }
+#[tactic(auto, using(basics::proofs::Below::any_none, basics::proofs::Below::any_skips, basics::proofs::Tested::any_found, basics::proofs::Tested::none_found), unfolding(crate::specs::Later::any_used_later))]
+pub fn is_any_used_later(listed: &[Listed; 32], at: usize, count: usize, z: Limits) -> bool
     requires count_le_width { (count ≤ width) × (at < width) }
-    ensures { result ≡ any_used_later z commit.now wrote.now read.now at count }
+    ensures { result ≡ any_used_later z.size listed.now at count }
 {
-    let mut c = 0;
-    while c < z.cells {
-        let mark = sizes::WIDTH * at + c;
-        if (wrote[mark] != 0) & is_used_later(commit, wrote, read, c, at, count, true) {
+    for c in 0..z.size.cells {
+        let wrote = listed[at].wrote[c].is_some();
+        if wrote && is_used_later(listed, c, Uses::CommitsAndReads, at, count) {
             return true;
         }
-        c += 1;
     }
     false
 }
 
 // With a record that starts or commits, somebody listed later comes to stand before its transaction.
+#[tactic(auto, unfolding(crate::specs::Later::overtaken))]
 pub fn is_overtaken(
-    commit: &[u16; 32],
-    wrote: &[u16; 1024],
-    read: &[bool; 1024],
+    listed: &[Listed; 32],
     kind: u8,
     cell: usize,
     at: usize,
     count: usize,
-    z: Size,
+    z: Limits,
 ) -> bool
-    requires within { Within z }
     requires count_le_width { (count ≤ width) × ((at < width) × (cell < width)) }
-    ensures { result ≡ overtaken z commit.now wrote.now read.now kind cell at count }
+    ensures { result ≡ overtaken z.size listed.now kind cell at count }
 {
     if kinds::posts(kind) {
-        return is_committed_later(commit, at, count)
-            | is_used_later(commit, wrote, read, cell, at, count, true);
+        return is_committed_later(listed, at, count)
+            || is_used_later(listed, cell, Uses::CommitsAndReads, at, count);
     }
     if kinds::starts(kind) {
-        return is_committed_later(commit, at, count);
+        return is_committed_later(listed, at, count);
     }
-    if kinds::commits(kind) {
-        return is_any_used_later(commit, wrote, read, at, count, z);
-    }
-    false
+    kinds::commits(kind) && is_any_used_later(listed, at, count, z)
 }

@@ -1,2 +1,3 @@
-pub mod Firsts
+pub mod Behind
 pub mod Positions
+pub mod Zipped

@@ -1,19 +1,21 @@
 -- The position of a number in a list: who stands there, that he stands nowhere else, and what it means there to keep a relation. Assumes nothing.
 use Prim.Native.Nat.{ℕ, ◌<◌}
 use mathlib.Core.Path.{◌≡◌, sym, ◌∙◌, ap, subst}
-use mathlib.Core.Bool.{Bool, true, not, ◌&&◌}
+use mathlib.Core.Bool.{Bool, true, not, cond, ◌&&◌}
 use mathlib.Core.List.{List}
 use native.Mathlib.Omega.{arith}
 use lib.ListN.{length, get_or}
 use lib.Dec.{ltb, eqb}
 use borrow.Author.Tests.{eqb-true, eq-eqb, ltb-true, lt-ltb, not-true}
+use Rattle.std.proofs.Common.{Option, Some, None}
+use Rattle.std.proofs.lemmas.List.Sums.{position_or_len_is}
 use Rattle.basics.specs.Below.{any_below}
 use Rattle.basics.specs.Lists.{member, distinct, keeps}
-use Rattle.basics.proofs.Bools.{clash, false_of_not, same_tests, and_left, and_right, and_both}
+use Rattle.basics.proofs.Bools.{split, clash, false_of_not, same_tests, and_left, and_right, and_both}
 use Rattle.basics.proofs.Below.{any_fails, any_false}
-use Rattle.basics.proofs.Search.{least_passes, least_is_below}
+use Rattle.basics.proofs.Search.{least_at_most, least_passes, least_fails, least_is_below}
 use Rattle.basics.proofs.Indexed.{member_there, member_index, distinct_there, keeps_there, keeps_by}
-use Rattle.check_list.specs.Listed.{position}
+use Rattle.check_list.specs.Listed.{position, found}
 
 module _ (xs : List ℕ) (k : ℕ) where
   -- it is one of the list's exactly if the number is a member
@@ -34,6 +36,30 @@ module _ (xs : List ℕ) (k : ℕ) where
       let h = ltb-true (position xs k) (length xs) t in
       subst (λ (n : ℕ). member n xs ≡ true) (position_found h) (member_there xs (position xs k) h))
       (λ m. lt-ltb (position xs k) (length xs) (position_below m))
+
+  -- the search that may find nothing finds the same
+  pub found_told : found xs k ≡ cond (ltb (position xs k) (length xs)) (Some (position xs k)) None
+  unfolding position
+  found_told =
+      let is_it : ℕ → Bool = λ i. eqb (get_or xs i 0) k in
+      ap (λ i. cond (ltb i (length xs)) (Some i) None)
+      (position_or_len_is (λ x. eqb x k) xs (position xs k) 0 (least_at_most is_it (length xs)) (least_fails is_it (length xs)) (least_passes is_it (length xs)))
+
+  pub found_some : (i : ℕ) → found xs k ≡ Some i → (position xs k ≡ i) × (i < length xs)
+  found_some i e =
+      let at = position xs k in
+      split (ltb at (length xs))
+      (λ t.
+      let h = ltb-true at (length xs) t in
+      let q : at ≡ i = some_same at i (sym (found_told ∙ rw t) ∙ e) in
+      (q, omega arith))
+      (λ f. absurd (none_some i (sym (found_told ∙ rw f) ∙ e)))
+    where
+      some_same : (m i : ℕ) → Some m ≡ Some i → m ≡ i
+      some_same m i e = cc
+
+      none_some : (i : ℕ) → ◌≡◌ {A = Option ℕ} None (Some i) → ⊥
+      none_some i e = cc
 
   -- in a list without repeats the number stands nowhere else
   pub position_only : (i : ℕ) → distinct xs ≡ true → i < length xs → eqb k (get_or xs i 0) ≡ eqb i (position xs k)

@@ -6,17 +6,11 @@ ghost use Rattle.check_list.specs.Listed.{all_in_time};
 use check_replay::state::Replay;
 
 // Each listed transaction is the named one, or committed before its moment.
-pub fn is_in_time(from: Replay, list: &[u16], t: u16) -> bool
+pub fn is_in_time(from: &Replay, list: &[u16], t: u16) -> bool
     requires { length list.now ≤ width }
-    ensures { result ≡ all_in_time from.commit from.moment list.now t }
+    ensures { result ≡ all_in_time from.now.listed from.now.moment list.now t }
 {
-    let mut i = 0;
-    while i < list.len() {
-        let committed = (from.commit[i] != 0) & (from.commit[i] < from.moment);
-        if !((list[i] == t) | committed) {
-            return false;
-        }
-        i += 1;
-    }
-    true
+    list.iter().zip(&from.listed).all(|(who, kept)| {
+        *who == t || kept.commit.is_some_and(|n| n < from.moment)
+    })
 }

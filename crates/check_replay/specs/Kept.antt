@@ -1,48 +1,28 @@
 -- What a replay keeps of a log, and how a record changes it. It is told by positions in the list and by record numbers; no value is copied.
-use Rattle.std.specs.Prelude.{ℕ, ◌+◌, ◌*◌, Bool, true, false, not, cond, ◌&&◌, ◌||◌, List, get_or, replicate, set, ltb, eqb}
+use Rattle.std.specs.Prelude.{ℕ, Bool, true, false, not, cond, ◌&&◌, ◌||◌, Option, Some, None, is_some, List, [], get_or, replicate, set}
 use Rattle.basics.specs.Below.{run_below}
 use Rattle.rules.specs.declared.Record.{Record}
 use Rattle.rules.specs.declared.Size.{Size}
 use Rattle.rules.specs.Sizes.{width}
 use Rattle.rules.specs.Kinds.{kind_starts, kind_commits, kind_writes, kind_judged_read, kind_sets_moment}
+use Rattle.check_replay.specs.declared.state.Listed.{Listed}
 use Rattle.check_replay.specs.declared.state.Replay.{Replay}
 
--- all that is kept: of the places, of the positions, of the positions and cells, of the cells, and of the log so far
-pub record Kept : Type 0 where
-  pub holder : List ℕ
-  pub commit : List ℕ
-  pub wrote : List ℕ
-  pub read : List Bool
-  pub table : List ℕ
-  pub moment : ℕ
-  pub stranger : Bool
+-- of a transaction before its first record
+abbrev pub nothing : Listed
+nothing = record { commit = None; wrote = replicate width None; read = replicate width false }
 
--- the struct, with what is written and read beside it
-abbrev pub kept_of : Replay → List ℕ → List Bool → Kept
-kept_of s wrote read =
-    record {
-      holder = s.holder;
-      commit = s.commit;
-      wrote = wrote;
-      read = read;
-      table = s.table;
-      moment = s.moment;
-      stranger = s.stranger;
-    }
-
--- where what is kept of a position and a cell stands
-abbrev pub mark : ℕ → ℕ → ℕ
-mark at c = width * at + c
+-- of a position past the end of the list
+abbrev pub nobody : Listed
+nobody = record { commit = None; wrote = []; read = [] }
 
 -- before the first record
-abbrev pub fresh : ℕ → Kept
+abbrev pub fresh : ℕ → Replay
 fresh t =
     record {
       holder = replicate width 0;
-      commit = replicate width 0;
-      wrote = replicate (width * width) 0;
-      read = replicate (width * width) false;
-      table = replicate width 0;
+      listed = replicate width nothing;
+      table = replicate width None;
       moment = t;
       stranger = false;
     }
@@ -55,23 +35,41 @@ whose_kept holder r n = cond (kind_starts r.kind) n (get_or holder r.place 0)
 abbrev pub holder_after : ℕ → Record → List ℕ → List ℕ
 holder_after n r holder = cond (kind_starts r.kind) (set holder r.place n) holder
 
--- each cell that the transaction at a position wrote has its value in the table from now on
-unfoldable pub laid : Size → List ℕ → ℕ → List ℕ → List ℕ
-laid z wrote at table =
-    run_below (λ c below. let w = get_or wrote (mark at c) 0 in cond (eqb w 0) below (set below c w)) z.cells table
+-- record number n, r, of a listed transaction is noted
+unfoldable pub noted : ℕ → Record → Listed → Listed
+noted n r own =
+    record {
+      commit = cond (kind_commits r.kind) (Some n) own.commit;
+      wrote = cond (kind_writes r.kind) (set own.wrote r.cell (Some n)) own.wrote;
+      read = cond (kind_judged_read r.kind) (set own.read r.cell true) own.read;
+    }
 
--- what record number n, r, leaves: its transaction stands at a position of a list of so many, or is not listed, and is the named one or not
-unfoldable pub followed : Size → ℕ → Record → ℕ → ℕ → Bool → Kept → Kept
-followed z n r at count named s =
-    let listed = ltb at count in
-    let there = mark at r.cell in
-    let wrote = cond (listed && kind_writes r.kind) (set s.wrote there n) s.wrote in
+-- the listed ones after it: its transaction stands at a position, or is not listed
+abbrev pub listed_after : ℕ → Record → Option ℕ → List Listed → List Listed
+listed_after n r None listed = listed
+listed_after n r (Some at) listed = set listed at (noted n r (get_or listed at nobody))
+
+-- a cell that a transaction wrote has its value in the table from now on
+abbrev pub laid_cell : List (Option ℕ) → ℕ → List (Option ℕ) → List (Option ℕ)
+laid_cell wrote c table = let w = get_or wrote c None in cond (is_some w) (set table c w) table
+
+-- and so each of its cells
+unfoldable pub laid : Size → List (Option ℕ) → List (Option ℕ) → List (Option ℕ)
+laid z wrote table = run_below (laid_cell wrote) z.cells table
+
+-- the table after a record: where a listed transaction commits, what it wrote is laid over it
+abbrev pub table_after : Size → Record → Option ℕ → List Listed → List (Option ℕ) → List (Option ℕ)
+table_after z r None listed table = table
+table_after z r (Some at) listed table = cond (kind_commits r.kind) (laid z (get_or listed at nobody).wrote table) table
+
+-- what record number n, r, leaves: its transaction stands at a position or is not listed, and is the named one or not
+unfoldable pub followed : Size → ℕ → Record → Option ℕ → Bool → Replay → Replay
+followed z n r at named s =
+    let listed = listed_after n r at s.listed in
     record {
       holder = holder_after n r s.holder;
-      commit = cond (listed && kind_commits r.kind) (set s.commit at n) s.commit;
-      wrote = wrote;
-      read = cond (listed && kind_judged_read r.kind) (set s.read there true) s.read;
-      table = cond (listed && kind_commits r.kind) (laid z wrote at s.table) s.table;
+      listed = listed;
+      table = table_after z r at listed s.table;
       moment = cond (named && kind_sets_moment r.kind) n s.moment;
-      stranger = (kind_commits r.kind && not listed) || s.stranger;
+      stranger = (kind_commits r.kind && not (is_some at)) || s.stranger;
     }

@@ -1,139 +1,152 @@
-// What a replay keeps, and how a record changes it.
-ghost use Rattle.std.specs.Prelude.{◌≡◌, true, false, cond, ◌&&◌, ◌*◌, ◌<◌, ◌≤◌, replicate, set};
-ghost use Rattle.rules.specs.Sizes.{Within, width};
-ghost use Rattle.rules.specs.Kinds.{kind_writes, kind_judged_read, kind_sets_moment};
-ghost use Rattle.check_replay.specs.Kept.{kept_of, fresh, whose_kept, holder_after, laid, followed};
+// What a replay keeps of a log for a proposed list, and how a record changes it.
+ghost use Rattle.std.specs.Prelude.{◌≡◌, ◌&&◌, ◌<◌, Some, IfSome};
+ghost use Rattle.rules.specs.Sizes.{width};
+ghost use Rattle.rules.specs.Kinds.{kind_sets_moment};
+ghost use Rattle.check_replay.specs.Kept.{nothing, noted, fresh, whose_kept, holder_after, listed_after, laid, table_after, followed};
 
 use log_bytes::kinds;
-use rules::{Record, Size, sizes};
+use rules::{Limits, Record};
 
-// By place: the transaction that holds it or held it last. By position in the list: its commit record, 0 for none. By cell: the record
-// that has the value last committed to it by a listed one, 0 for the opening value. And the moment of the named transaction so far, and
-// whether somebody who is not listed has committed.
-// Beside it two arrays are lent, by position and cell, at 32 × position + cell: `wrote`, the record of its latest write, 0 for none, and
-// `read`, whether it made a judged read.
+// Of one listed transaction: its commit record; and by cell, the record of its latest write, and whether it made a judged read.
 #[derive(Clone, Copy)]
+pub struct Listed {
+    pub commit: Option<u16>,
+    pub wrote: [Option<u16>; 32],
+    pub read: [bool; 32],
+}
+
+// By place: the transaction that holds it or held it last, 0 at first. By position in the list: what is kept of the one listed there. By cell: the
+// record that has the value last committed to it by a listed one, none for the opening value. And the moment of the named transaction so
+// far, and whether somebody who is not listed has committed.
+#[derive(Drop)]
 pub struct Replay {
     pub holder: [u16; 32],
-    pub commit: [u16; 32],
-    pub table: [u16; 32],
+    pub listed: [Listed; 32],
+    pub table: [Option<u16>; 32],
     pub moment: u16,
     pub stranger: bool,
 }
 
-// Before the first record, when nothing is written or read; the moment of a transaction is at first its begin.
-pub fn fresh(t: u16) -> Replay
-    ensures { kept_of result (replicate (width * width) 0) (replicate (width * width) false) ≡ fresh t }
-{
-    Replay {
-        holder: [0; 32],
-        commit: [0; 32],
-        table: [0; 32],
-        moment: t,
-        stranger: false,
+// A record as a replay meets it: with its number, and whether it is of the named transaction.
+#[derive(Clone, Copy)]
+pub struct Met {
+    pub entry: Record,
+    pub number: u16,
+    pub named: bool,
+}
+
+impl Met {
+    // It sets the moment of the named transaction.
+    pub fn sets_moment(self) -> bool
+        ensures { result ≡ self.named && kind_sets_moment self.entry.kind }
+    {
+        self.named & kinds::sets_moment(self.entry.kind)
     }
 }
 
-// Whose record number n is: of the transaction that it starts, else of the one that holds its place.
-pub fn whose(holder: &[u16; 32], entry: Record, n: u16) -> u16
-    requires { entry.place < width }
-    ensures { result ≡ whose_kept holder.now entry n }
-{
-    let p = entry.place as usize;
-    if kinds::starts(entry.kind) {
-        return n;
-    }
-    holder[p]
-}
-
-// A record that starts a transaction gives it the place.
-fn hold(holder: &mut [u16; 32], entry: Record, n: u16)
-    requires { entry.place < width }
-    ensures { holder.new ≡ holder_after n entry holder.old }
-{
-    let p = entry.place as usize;
-    if kinds::starts(entry.kind) {
-        holder[p] = n;
-    }
-}
-
-// A record of the named transaction may set its moment.
-fn timed(moment: u16, kind: u8, n: u16, named: bool) -> u16
-    ensures { result ≡ cond (named && kind_sets_moment kind) n moment }
-{
-    if named & kinds::sets_moment(kind) {
-        return n;
-    }
-    moment
-}
-
-// A judged read of the listed transaction is noted.
-fn note_read(read: &mut [bool; 1024], kind: u8, mark: usize)
-    requires { mark < width * width }
-    ensures { read.new ≡ cond (kind_judged_read kind) (set read.old mark true) read.old }
-{
-    if kinds::is_judged_read(kind) {
-        read[mark] = true;
-    }
-}
-
-// A write of the listed transaction, record n, is noted.
-fn note_write(wrote: &mut [u16; 1024], kind: u8, mark: usize, n: u16)
-    requires { mark < width * width }
-    ensures { wrote.new ≡ cond (kind_writes kind) (set wrote.old mark n) wrote.old }
-{
-    if kinds::writes(kind) {
-        wrote[mark] = n;
-    }
-}
-
-// Each cell that the listed transaction wrote has its value in the table from now on.
-#[tactic(auto, using(crate::proofs::Laid::written_more, crate::proofs::Laid::unwritten_more))]
-fn lay(table: &mut [u16; 32], wrote: &[u16; 1024], at: usize, z: Size)
-    requires within { Within z }
-    requires at_lt_width { at < width }
-    ensures { table.new ≡ laid z wrote.now at table.old }
-{
-    let mut c = 0;
-    while c < z.cells {
-        let mark = sizes::WIDTH * at + c;
-        if wrote[mark] != 0 {
-            table[c] = wrote[mark];
+impl Listed {
+    // Before its first entry.
+    fn nothing() -> Listed
+        ensures { result ≡ nothing }
+    {
+        Listed {
+            commit: None,
+            wrote: [None; 32],
+            read: [false; 32],
         }
-        c += 1;
+    }
+
+    // Record number n, of it, is noted: a commit, a write, a judged read.
+    #[tactic(auto, unfolding(crate::specs::Kept::noted))]
+    fn note(&mut self, entry: Record, n: u16)
+        requires { entry.cell < width }
+        ensures { self.new ≡ noted n entry self.old }
+    {
+        let cell = entry.cell as usize;
+        if kinds::commits(entry.kind) {
+            self.commit = Some(n);
+        }
+        if kinds::writes(entry.kind) {
+            self.wrote[cell] = Some(n);
+        }
+        if kinds::is_judged_read(entry.kind) {
+            self.read[cell] = true;
+        }
     }
 }
 
-// What record number n leaves: its transaction stands at a position of a list of so many, or is not listed.
-pub fn follow(
-    from: Replay,
-    wrote: &mut [u16; 1024],
-    read: &mut [bool; 1024],
-    entry: Record,
-    n: u16,
-    at: usize,
-    count: usize,
-    named: bool,
-    z: Size,
-) -> Replay
-    requires within { Within z }
-    requires count_le_width { (count ≤ width) × ((entry.place < width) × (entry.cell < width)) }
-    ensures { kept_of result wrote.new read.new ≡ followed z n entry at count named (kept_of from wrote.old read.old) }
+// Each cell that a transaction wrote has its value in the table from now on.
+#[tactic(auto, using(basics::proofs::Below::run_none, basics::proofs::Below::run_more), unfolding(crate::specs::Kept::laid))]
+fn lay(table: &mut [Option<u16>; 32], own: &Listed, z: Limits)
+    ensures { table.new ≡ laid z.size own.now.wrote table.old }
 {
-    let kind = entry.kind;
-    let mut next = from;
-    hold(&mut next.holder, entry, n);
-    next.moment = timed(next.moment, kind, n, named);
-    if at >= count {
-        next.stranger = kinds::commits(kind) | next.stranger;
-        return next;
+    for c in 0..z.size.cells {
+        if own.wrote[c].is_some() {
+            table[c] = own.wrote[c];
+        }
     }
-    let mark = sizes::WIDTH * at + entry.cell as usize;
-    note_read(read, kind, mark);
-    note_write(wrote, kind, mark, n);
-    if kinds::commits(kind) {
-        next.commit[at] = n;
-        lay(&mut next.table, wrote, at, z);
+}
+
+impl Replay {
+    // Before the first record; the moment of a transaction is at first its begin.
+    pub fn fresh(t: u16) -> Replay
+        ensures { result ≡ fresh t }
+    {
+        Replay {
+            holder: [0; 32],
+            listed: [Listed::nothing(); 32],
+            table: [None; 32],
+            moment: t,
+            stranger: false,
+        }
     }
-    next
+
+    // Whose record number n is: of the transaction that it starts, else of the one that holds its place.
+    pub fn whose(&self, entry: Record, n: u16) -> u16
+        requires { entry.place < width }
+        ensures { result ≡ whose_kept self.now.holder entry n }
+    {
+        if kinds::starts(entry.kind) {
+            return n;
+        }
+        self.holder[entry.place as usize]
+    }
+
+    // A record that starts a transaction gives it the place.
+    fn hold(&mut self, entry: Record, n: u16)
+        requires { entry.place < width }
+        ensures { self.new ≡ record self.old { holder = holder_after n entry self.old.holder } }
+    {
+        if kinds::starts(entry.kind) {
+            self.holder[entry.place as usize] = n;
+        }
+    }
+
+    // A record of the listed transaction at a position is noted and, if it commits, what the transaction wrote is laid over the table.
+    fn note(&mut self, entry: Record, n: u16, at: usize, z: Limits)
+        requires { (at < width) × (entry.cell < width) }
+        ensures { let listed = listed_after n entry (Some at) self.old.listed in self.new ≡ record self.old { listed = listed; table = table_after z.size entry (Some at) listed self.old.table } }
+    {
+        self.listed[at].note(entry, n);
+        if kinds::commits(entry.kind) {
+            lay(&mut self.table, &self.listed[at], z);
+        }
+    }
+
+    // What a record leaves: its transaction stands at a position of the list, or is not listed.
+    #[tactic(auto, unfolding(crate::specs::Kept::followed))]
+    pub fn follow(&mut self, met: Met, at: Option<usize>, z: Limits)
+        requires listed { IfSome at (λ i. i < width) }
+        requires within { (met.entry.place < width) × (met.entry.cell < width) }
+        ensures { self.new ≡ followed z.size met.number met.entry at met.named self.old }
+    {
+        self.hold(met.entry, met.number);
+        if met.sets_moment() {
+            self.moment = met.number;
+        }
+        match at {
+            None => self.stranger = kinds::commits(met.entry.kind) | self.stranger,
+            Some(at) => self.note(met.entry, met.number, at, z),
+        }
+    }
 }

@@ -1,16 +1,18 @@
 -- What a replay keeps mirrors one record more of the day once it has followed that record. Assumes nothing.
-use Prim.Native.Nat.{ℕ, suc, ◌*◌, ◌≤◌, ◌<◌}
+use Prim.Native.Nat.{ℕ, zero, suc, ◌≤◌, ◌<◌}
 use mathlib.Core.Path.{◌≡◌, refl, sym, ◌∙◌, ap, ap₂, subst}
-use mathlib.Core.Bool.{Bool, true, false, not, cond, ◌&&◌, ◌||◌, and-true}
+use mathlib.Core.Bool.{Bool, true, false, not, cond, ◌&&◌, ◌||◌}
 use mathlib.Core.List.{List, ◌∷◌}
+use native.Mathlib.Nat.{le_refl}
 use native.Mathlib.Omega.{arith}
-use lib.ListN.{length, get_or, set, length-set}
+use lib.ListN.{length, get_or, set}
 use lib.Seq.{get_or-set_same, get_or-set_other}
 use lib.Dec.{ltb, eqb}
-use borrow.Author.Tests.{eqb-true, ltb-true, lt-ltb}
+use borrow.Author.Tests.{eqb-true, ne_eqb, ltb-true, lt-ltb}
+use Rattle.std.proofs.Common.{Option, Some, None, is_some, IfSome}
+use Rattle.std.proofs.lemmas.Option.{IfSome_then}
 use Rattle.basics.specs.Lists.{any_in, distinct}
-use Rattle.basics.proofs.Bools.{split, and_fails_right, cond_or, cond_not}
-use Rattle.basics.proofs.Elements.{get_or_set, set_each}
+use Rattle.basics.proofs.Bools.{split, eqb_swap, and_right, and_fails_right, cond_or}
 use Rattle.rules.specs.declared.Record.{Record}
 use Rattle.rules.specs.declared.Size.{Size}
 use Rattle.rules.specs.Sizes.{Within, width}
@@ -21,46 +23,96 @@ use Rattle.rules.proofs.Replay.InTime.{read_cell, has_stranger}
 use Rattle.rules.proofs.Log.Seats.{LiveSeat, walks_earlier, fits_live, seat_by}
 use Rattle.rules.proofs.Day.Moments.{moment_more}
 use Rattle.check_list.specs.Listed.{position}
-use Rattle.check_replay.specs.Kept.{Kept, mark, holder_after, laid, followed}
-use Rattle.check_explain.specs.Explained.{PastOnly}
-use Rattle.checker.proofs.Arrays.{mark_only, mark_within, laid_length, laid_bounded, laid_at}
 use Rattle.check_list.proofs.Positions.{position_found, position_member, position_only}
-use Rattle.checker.proofs.KeptMirrored.{latest_write, table_record, Mirrors, walks_fields, wrote_told}
+use Rattle.check_replay.specs.declared.state.Listed.{Listed}
+use Rattle.check_replay.specs.declared.state.Replay.{Replay}
+use Rattle.check_replay.specs.Kept.{nobody, holder_after, noted, listed_after, laid, table_after, followed}
+use Rattle.check_explain.specs.Explained.{Past}
+use Rattle.checker.proofs.Arrays.{get_or_set_if, length_set_if, set_each_if, laid_length, laid_each, laid_at}
+use Rattle.checker.proofs.KeptMirrored.{latest_write, table_record, record_of, Mirrors, walks_fields, wrote_told}
 
--- ---- tests
+-- ---- a listed transaction
 
--- what is asked of one who is listed need not be asked where the position is known
-listed_first : (b f q : Bool) → (q ≡ true → b ≡ true) → (b && f) && q ≡ q && f
-listed_first b f true h = rw (h refl) (and-true f)
-listed_first b f false h = and_fails_right (b && f) false refl
+-- what is kept of it, where the record is noted or not
+module _ (n : ℕ) (r : Record) where
+  noted_if : Bool → Listed → Listed
+  noted_if b own = cond b (noted n r own) own
 
-listed_both : (b f q g : Bool) → (q ≡ true → b ≡ true) → (b && f) && (q && g) ≡ q && (f && g)
-listed_both b f true g h = rw (h refl)
-listed_both b f false g h = and_fails_right (b && f) false refl
+  commit_noted : (b : Bool) (own : Listed) → (noted_if b own).commit ≡ cond (b && kind_commits r.kind) (Some n) own.commit
+  unfolding noted_if noted
+  commit_noted true own = refl
+  commit_noted false own = refl
 
--- an array in which one element is set, or none
-get_or_set_if {ℓ} : {A : Type ℓ} (b : Bool) (xs : List A) (i j : ℕ) (x d : A) → j < length xs
-    → get_or (cond b (set xs i x) xs) j d ≡ cond (b && eqb j i) x (get_or xs j d)
-get_or_set_if true xs i j x d h = get_or_set xs i j x d h
-get_or_set_if false xs i j x d h = refl
+  wrote_noted : (b : Bool) (own : Listed) (c : ℕ) → c < length own.wrote
+      → get_or (noted_if b own).wrote c None ≡ cond (b && (kind_writes r.kind && eqb r.cell c)) (Some n) (get_or own.wrote c None)
+  unfolding noted_if noted
+  wrote_noted true own c h = rw (eqb_swap r.cell c) (get_or_set_if (kind_writes r.kind) own.wrote r.cell c (Some n) None h)
+  wrote_noted false own c h = refl
 
-length_set_if {ℓ} : {A : Type ℓ} (b : Bool) (xs : List A) (i : ℕ) (x : A) → length (cond b (set xs i x) xs) ≡ length xs
-length_set_if true xs i x = length-set xs i x
-length_set_if false xs i x = refl
+  read_noted : (b : Bool) (own : Listed) (c : ℕ) → c < length own.read
+      → get_or (noted_if b own).read c false ≡ cond (b && (kind_judged_read r.kind && eqb r.cell c)) true (get_or own.read c false)
+  unfolding noted_if noted
+  read_noted true own c h = rw (eqb_swap r.cell c) (get_or_set_if (kind_judged_read r.kind) own.read r.cell c true false h)
+  read_noted false own c h = refl
 
-bounded_set_if : (b : Bool) (n : ℕ) (xs : List ℕ) (i x : ℕ) → x ≤ n → ((j : ℕ) → get_or xs j 0 ≤ n) → (j : ℕ) → get_or (cond b (set xs i x) xs) j 0 ≤ n
-bounded_set_if true n xs i x h k = set_each (λ m. m ≤ n) xs i x 0 h k
-bounded_set_if false n xs i x h k = k
+  wrote_length_noted : (b : Bool) (own : Listed) → length (noted_if b own).wrote ≡ length own.wrote
+  unfolding noted_if noted
+  wrote_length_noted true own = length_set_if (kind_writes r.kind) own.wrote r.cell (Some n)
+  wrote_length_noted false own = refl
 
--- the table, with writes laid over it or without
-length_laid_if : (b : Bool) (z : Size) (wrote : List ℕ) (at : ℕ) (table : List ℕ) → length (cond b (laid z wrote at table) table) ≡ length table
-length_laid_if true z wrote at table = laid_length wrote at z table
-length_laid_if false z wrote at table = refl
+  read_length_noted : (b : Bool) (own : Listed) → length (noted_if b own).read ≡ length own.read
+  unfolding noted_if noted
+  read_length_noted true own = length_set_if (kind_judged_read r.kind) own.read r.cell true
+  read_length_noted false own = refl
 
-bounded_laid_if : (b : Bool) (n : ℕ) (z : Size) (wrote : List ℕ) (at : ℕ) (table : List ℕ) → ((j : ℕ) → get_or wrote j 0 ≤ n) → ((j : ℕ) → get_or table j 0 ≤ n)
-    → (j : ℕ) → get_or (cond b (laid z wrote at table) table) j 0 ≤ n
-bounded_laid_if true n z wrote at table h k = laid_bounded wrote at z table n h k
-bounded_laid_if false n z wrote at table h k = k
+  past_noted : (own : Listed) → 1 ≤ n → Past n own.wrote → Past n (noted n r own).wrote
+  unfolding noted
+  past_noted own h k = set_each_if (λ o. IfSome o (λ w. (1 ≤ w) × (w ≤ n))) (kind_writes r.kind) own.wrote r.cell (Some n) None (h, le_refl n) k
+
+-- a record, none for 0, by a test
+record_if : (b : Bool) (n old : ℕ) → record_of (cond b (suc n) old) ≡ cond b (Some (suc n)) (record_of old)
+record_if true n old = refl
+record_if false n old = refl
+
+-- the later of two, where there is one
+record_or : (w old : ℕ) → cond (is_some (record_of w)) (record_of w) (record_of old) ≡ record_of (cond (not (eqb w 0)) w old)
+record_or zero old = refl
+record_or (suc w) old = rw (ne_eqb (suc w) 0 (λ e. omega arith))
+
+some_if : (b : Bool) (i : ℕ) → is_some (cond b (Some i) None) ≡ b
+some_if true i = refl
+some_if false i = refl
+
+-- the listed ones after a record, and the table, by whether its transaction is listed
+listed_if : (b : Bool) (n : ℕ) (r : Record) (at : ℕ) (listed : List Listed)
+    → listed_after n r (cond b (Some at) None) listed ≡ cond b (set listed at (noted n r (get_or listed at nobody))) listed
+listed_if true n r at listed = refl
+listed_if false n r at listed = refl
+
+table_if : (b : Bool) (z : Size) (r : Record) (at : ℕ) (listed : List Listed) (table : List (Option ℕ))
+    → table_after z r (cond b (Some at) None) listed table ≡ cond (b && kind_commits r.kind) (laid z (get_or listed at nobody).wrote table) table
+table_if true z r at listed table = refl
+table_if false z r at listed table = refl
+
+-- where it is listed, commits and wrote, the table has its latest write
+laid_or : (b commits wrote : Bool) (after table : List (Option ℕ)) (c last old : ℕ)
+    → (b ≡ true → get_or after c None ≡ record_of (cond wrote last old)) → get_or table c None ≡ record_of old
+    → get_or (cond (b && commits) after table) c None ≡ record_of (cond (b && (commits && wrote)) last old)
+laid_or true true wrote after table c last old h k = h refl
+laid_or true false wrote after table c last old h k = k
+laid_or false commits wrote after table c last old h k = k
+
+length_laid_if : (b : Bool) (z : Size) (wrote table : List (Option ℕ)) → length (cond b (laid z wrote table) table) ≡ length table
+length_laid_if true z wrote table = laid_length wrote z table
+length_laid_if false z wrote table = refl
+
+past_laid_if : (b : Bool) (n : ℕ) (z : Size) (wrote table : List (Option ℕ)) → Past n wrote → Past n table → Past n (cond b (laid z wrote table) table)
+past_laid_if true n z wrote table h k = laid_each wrote z table (λ o. IfSome o (λ w. (1 ≤ w) × (w ≤ n))) h k
+past_laid_if false n z wrote table h k = k
+
+-- the records of a shorter day are those of a longer
+past_more_records : (n : ℕ) (xs : List (Option ℕ)) → Past n xs → Past (suc n) xs
+past_more_records n xs h i = IfSome_then (get_or xs i None) (h i) (λ w k. (k.0, omega arith))
 
 -- ---- one record more
 
@@ -70,7 +122,7 @@ cell_within z r day within w =
     let fields = walks_fields z r day w in
     split (kind_has_cell r.kind) (λ k. omega (arith, fields.cell_known k, within.cells)) (λ k. omega (arith, fields.cell_unused k))
 
-module _ (z : Size) (t : ℕ) (order : List ℕ) (within : Within z) (once : distinct order ≡ true) (few : length order ≤ width) (day : List Record) (s : Kept)
+module _ (z : Size) (t : ℕ) (order : List ℕ) (within : Within z) (once : distinct order ≡ true) (few : length order ≤ width) (day : List Record) (s : Replay)
     (r : Record) (m : Mirrors z t order day s) (w : walks z (r ∷ day) ≡ true) where
   -- the record's number, its transaction, where that stands in the list, and whether it does
   abbrev n : ℕ
@@ -89,9 +141,12 @@ module _ (z : Size) (t : ℕ) (order : List ℕ) (within : Within z) (once : dis
   listed_there : (i : ℕ) → i < length order → eqb i at ≡ true → listed ≡ true
   listed_there i h e = lt-ltb at (length order) (omega (arith, eqb-true i at e))
 
+  abbrev place : Option ℕ
+  place = cond listed (Some at) None
+
   -- what is kept behind it
-  abbrev s' : Kept
-  s' = followed z n r at (length order) (eqb who t) s
+  abbrev s' : Replay
+  s' = followed z n r place (eqb who t) s
 
   -- by place
   holders_more : (p : ℕ) → p < z.places → 1 ≤ (seat (r ∷ day) p).status → get_or s'.holder p 0 ≡ (seat (r ∷ day) p).begin
@@ -119,84 +174,99 @@ module _ (z : Size) (t : ℕ) (order : List ℕ) (within : Within z) (once : dis
       live : r.place ≡ p → kind_starts r.kind ≡ false → 1 ≤ (seat day p).status
       live here k = let l = subst (λ (q : ℕ). LiveSeat r.turn (seat day q)) here (fits_live day r k (walks_earlier z r day w).1) in omega arith
 
+  -- what is kept of one listed transaction
+  row_more : (i : ℕ) → i < width → get_or s'.listed i nobody ≡ noted_if n r (listed && eqb i at) (get_or s.listed i nobody)
+  unfolding followed noted_if
+  row_more i h =
+      rw (listed_if listed n r at s.listed)
+      (get_or_set_if listed s.listed at i (noted n r (get_or s.listed at nobody)) nobody (omega (arith, m.listed_length))
+      ∙ split (listed && eqb i at)
+      (λ e. rw e (ap (λ j. noted n r (get_or s.listed j nobody)) (sym (eqb-true i at (and_right listed (eqb i at) e)))))
+      (λ e. rw e))
+
+  own_more : (i : ℕ) → i < length order → get_or s'.listed i nobody ≡ noted_if n r (eqb i at) (get_or s.listed i nobody)
+  own_more i h =
+      row_more i (omega arith)
+      ∙ ap (λ b. noted_if n r b (get_or s.listed i nobody))
+      (split (eqb i at) (λ e. rw (e, listed_there i h e)) (λ e. rw e (and_fails_right listed false refl)))
+
   -- by position
-  commits_more : (i : ℕ) → i < length order → get_or s'.commit i 0 ≡ commit_of (events (r ∷ day)) (get_or order i 0)
-  unfolding followed commit_of latest events event
+  commits_more : (i : ℕ) → i < length order → (get_or s'.listed i nobody).commit ≡ record_of (commit_of (events (r ∷ day)) (get_or order i 0))
+  unfolding commit_of latest events event
   commits_more i h =
-      let commits = kind_commits r.kind in
+      let test = eqb i at && kind_commits r.kind in
       rw (position_only order who i once h)
-      (get_or_set_if (listed && commits) s.commit at i n 0 (omega (arith, m.commit_length))
-      ∙ ap₂ (λ (b : Bool) (v : ℕ). cond b n v) (listed_first listed commits (eqb i at) (listed_there i h)) (m.commits i h))
+      (ap (λ own. own.commit) (own_more i h)
+      ∙ commit_noted n r (eqb i at) (get_or s.listed i nobody)
+      ∙ ap (cond test (Some n)) (m.commits i h)
+      ∙ sym (record_if test (length day) (commit_of (events day) (get_or order i 0))))
 
   -- by position and cell
   module _ (i c : ℕ) (h : i < length order) (k : c < z.cells) where
-    within_marks : mark i c < width * width
-    within_marks = mark_within i c (omega arith) (omega (arith, within.cells))
-
-    -- the test that the record does something to the cell, of a listed one and of this one
-    tests_more : (does : Bool) → (listed && does) && eqb (mark i c) (mark at r.cell) ≡ eqb i at && (does && eqb r.cell c)
-    tests_more does =
-        ap (λ b. (listed && does) && b) (mark_only i at c r.cell (omega (arith, within.cells)) (cell_within z r day within w))
-        ∙ listed_both listed does (eqb i at) (eqb r.cell c) (listed_there i h)
-
-    writes_more : get_or s'.wrote (mark i c) 0 ≡ latest_write (events (r ∷ day)) (get_or order i 0) c
-    unfolding followed latest_write latest events event
+    writes_more : get_or (get_or s'.listed i nobody).wrote c None ≡ record_of (latest_write (events (r ∷ day)) (get_or order i 0) c)
+    unfolding latest_write latest events event
     writes_more =
-        let writes = kind_writes r.kind in
+        let test = eqb i at && (kind_writes r.kind && eqb r.cell c) in
         rw (position_only order who i once h)
-        (get_or_set_if (listed && writes) s.wrote (mark at r.cell) (mark i c) n 0 (omega (arith, m.wrote_length, within_marks))
-        ∙ ap₂ (λ (b : Bool) (v : ℕ). cond b n v) (tests_more writes) (m.writes i c h k))
+        (ap (λ own. get_or own.wrote c None) (own_more i h)
+        ∙ wrote_noted n r (eqb i at) (get_or s.listed i nobody) c (omega (arith, m.wrote_length i (omega arith), within.cells))
+        ∙ ap (cond test (Some n)) (m.writes i c h k)
+        ∙ sym (record_if test (length day) (latest_write (events day) (get_or order i 0) c)))
 
-    reads_more : get_or s'.read (mark i c) false ≡ read_cell (events (r ∷ day)) (get_or order i 0) c
-    unfolding followed read_cell any_in events event
+    reads_more : get_or (get_or s'.listed i nobody).read c false ≡ read_cell (events (r ∷ day)) (get_or order i 0) c
+    unfolding read_cell any_in events event
     reads_more =
-        let reads = kind_judged_read r.kind in
+        let test = eqb i at && (kind_judged_read r.kind && eqb r.cell c) in
         rw (position_only order who i once h)
-        (get_or_set_if (listed && reads) s.read (mark at r.cell) (mark i c) true false (omega (arith, m.read_length, within_marks))
-        ∙ ap₂ (λ (b v : Bool). cond b true v) (tests_more reads) (m.reads i c h k)
-        ∙ cond_or (eqb i at && (reads && eqb r.cell c)) (read_cell (events day) (get_or order i 0) c))
+        (ap (λ own. get_or own.read c false) (own_more i h)
+        ∙ read_noted n r (eqb i at) (get_or s.listed i nobody) c (omega (arith, m.read_length i (omega arith), within.cells))
+        ∙ ap (cond test true) (m.reads i c h k)
+        ∙ cond_or test (read_cell (events day) (get_or order i 0) c))
 
   -- by cell
-  tables_more : (c : ℕ) → c < z.cells → get_or s'.table c 0 ≡ table_record order (events (r ∷ day)) c
+  tables_more : (c : ℕ) → c < z.cells → get_or s'.table c None ≡ record_of (table_record order (events (r ∷ day)) c)
   unfolding followed table_record events event
   tables_more c h =
-      let commits = kind_commits r.kind in
       rw (← position_member order who)
-      (split listed
-      (λ l. rw l (split commits (λ k. rw k (rw l at (committing (ltb-true at (length order) l)))) (λ k. rw k (m.tables c h))))
-      (λ l. rw l (m.tables c h)))
+      (ap (λ table. get_or table c None) (table_if listed z r at s'.listed s.table)
+      ∙ laid_or listed (kind_commits r.kind) (wrote_cell (events (r ∷ day)) who c) (laid z (get_or s'.listed at nobody).wrote s.table) s.table c
+      (latest_write (events (r ∷ day)) who c) (table_record order (events day) c) (λ l. committing (ltb-true at (length order) l)) (m.tables c h))
     where
       committing : at < length order
-          → get_or (laid z s'.wrote at s.table) c 0
-          ≡ cond (wrote_cell (events (r ∷ day)) who c) (latest_write (events (r ∷ day)) who c) (table_record order (events day) c)
+          → get_or (laid z (get_or s'.listed at nobody).wrote s.table) c None
+          ≡ record_of (cond (wrote_cell (events (r ∷ day)) who c) (latest_write (events (r ∷ day)) who c) (table_record order (events day) c))
       committing l =
           let last = latest_write (events (r ∷ day)) who c in
-          let here : get_or s'.wrote (mark at c) 0 ≡ last = writes_more at c l h ∙ ap (λ k. latest_write (events (r ∷ day)) k c) (position_found order who l) in
-          laid_at s'.wrote at z s.table c h (omega (arith, m.table_length, within.cells))
-          ∙ ap₂ (λ (x y : ℕ). cond (eqb x 0) y x) here (m.tables c h)
-          ∙ sym (cond_not (eqb last 0) (table_record order (events day) c) last)
-          ∙ ap (λ b. cond b last (table_record order (events day) c)) (sym (wrote_told (r ∷ day) who c))
+          let old = table_record order (events day) c in
+          let wrote = (get_or s'.listed at nobody).wrote in
+          let here : get_or wrote c None ≡ record_of last =
+          writes_more at c l h ∙ ap (λ k. record_of (latest_write (events (r ∷ day)) k c)) (position_found order who l) in
+          laid_at wrote z s.table c h (omega (arith, m.table_length, within.cells))
+          ∙ ap₂ (λ (x y : Option ℕ). cond (is_some x) x y) here (m.tables c h)
+          ∙ record_or last old
+          ∙ ap (λ b. record_of (cond b last old)) (sym (wrote_told (r ∷ day) who c))
 
   -- whether somebody unlisted has committed
   strangers_more : s'.stranger ≡ has_stranger order (events (r ∷ day))
   unfolding followed has_stranger any_in events event
   strangers_more =
-      ap₂ (λ (b old : Bool). (kind_commits r.kind && not b) || old) (position_member order who) m.strangers
+      ap₂ (λ (b old : Bool). (kind_commits r.kind && not b) || old) (some_if listed at ∙ position_member order who) m.strangers
 
   -- the records that are named are of the day
-  past_more : PastOnly (suc (length day)) s'
+  past_rows : (i : ℕ) → Past n (get_or s'.listed i nobody).wrote
   unfolding followed
-  past_more = (λ c. bounded_laid_if (listed && kind_commits r.kind) n z s'.wrote at s.table wrote_past table_past c, wrote_past)
-    where
-      older : (xs : List ℕ) → ((j : ℕ) → get_or xs j 0 ≤ length day) → (j : ℕ) → get_or xs j 0 ≤ n
-      older xs h j = omega (arith, h j)
+  past_rows =
+      let older : (i : ℕ) → Past n (get_or s.listed i nobody).wrote = λ i. past_more_records (length day) (get_or s.listed i nobody).wrote (m.past.1 i) in
+      rw (listed_if listed n r at s.listed)
+      (set_each_if (λ own. Past n own.wrote) listed s.listed at (noted n r (get_or s.listed at nobody)) nobody
+      (past_noted n r (get_or s.listed at nobody) (omega arith) (older at)) older)
 
-      table_past : (j : ℕ) → get_or s.table j 0 ≤ n
-      table_past = older s.table m.past.0
-
-      wrote_past : (j : ℕ) → get_or s'.wrote j 0 ≤ n
-      wrote_past j =
-          bounded_set_if (listed && kind_writes r.kind) n s.wrote (mark at r.cell) n (omega arith) (older s.wrote m.past.1) j
+  past_table : Past n s'.table
+  unfolding followed
+  past_table =
+      rw (table_if listed z r at s'.listed s.table)
+      (past_laid_if (listed && kind_commits r.kind) n z (get_or s'.listed at nobody).wrote s.table (past_rows at)
+      (past_more_records (length day) s.table m.past.0))
 
   -- what is kept mirrors one record more
   pub mirrors_more : Mirrors z t order (r ∷ day) s'
@@ -210,10 +280,13 @@ module _ (z : Size) (t : ℕ) (order : List ℕ) (within : Within z) (once : dis
         tables = tables_more;
         at_moment = ap (cond (eqb who t && kind_sets_moment r.kind) n) m.at_moment ∙ sym (moment_more z t r day w);
         strangers = strangers_more;
-        past = past_more;
+        past = (past_table, past_rows);
         holder_length = length_set_if (kind_starts r.kind) s.holder r.place n ∙ m.holder_length;
-        commit_length = length_set_if (listed && kind_commits r.kind) s.commit at n ∙ m.commit_length;
-        wrote_length = length_set_if (listed && kind_writes r.kind) s.wrote (mark at r.cell) n ∙ m.wrote_length;
-        read_length = length_set_if (listed && kind_judged_read r.kind) s.read (mark at r.cell) true ∙ m.read_length;
-        table_length = length_laid_if (listed && kind_commits r.kind) z s'.wrote at s.table ∙ m.table_length;
+        listed_length = ap length (listed_if listed n r at s.listed) ∙ length_set_if listed s.listed at (noted n r (get_or s.listed at nobody)) ∙ m.listed_length;
+        wrote_length = λ i h.
+            ap (λ own. length own.wrote) (row_more i h) ∙ wrote_length_noted n r (listed && eqb i at) (get_or s.listed i nobody) ∙ m.wrote_length i h;
+        read_length = λ i h.
+            ap (λ own. length own.read) (row_more i h) ∙ read_length_noted n r (listed && eqb i at) (get_or s.listed i nobody) ∙ m.read_length i h;
+        table_length = ap length (table_if listed z r at s'.listed s.table)
+            ∙ length_laid_if (listed && kind_commits r.kind) z (get_or s'.listed at nobody).wrote s.table ∙ m.table_length;
       }

@@ -1,17 +1,19 @@
 -- What a replay keeps mirrors the day that it has gone through; before the first record it does. Whose a record is, is told by what is kept.
 -- Assumes nothing.
-use Prim.Native.Nat.{ℕ, suc, ◌*◌, ◌≤◌, ◌<◌}
-use mathlib.Core.Path.{◌≡◌, refl, ap}
+use Prim.Native.Nat.{ℕ, zero, suc, ◌≤◌, ◌<◌}
+use mathlib.Core.Path.{◌≡◌, refl, sym, ◌∙◌, ap}
 use mathlib.Core.Bool.{Bool, true, false, not, cond, ◌&&◌}
 use mathlib.Core.List.{List, [], ◌∷◌}
 use native.Mathlib.Nat.{not-suc-le-zero}
 use native.Mathlib.Omega.{arith}
-use lib.ListN.{length, get_or, length-replicate}
+use lib.ListN.{length, get_or, replicate, length-replicate}
 use lib.Dec.{eqb}
-use borrow.Author.Tests.{eqb-true, eqb-false, not-true}
+use borrow.Author.Tests.{eqb-true, eqb-false, ne_eqb, not-true}
+use Rattle.std.proofs.Common.{Option, Some, None, is_some, IfSome}
+use Rattle.std.proofs.lemmas.List.{get_or-replicate}
 use Rattle.basics.specs.Lists.{any_in, member}
 use Rattle.basics.proofs.Bools.{split, clash, false_of_not, same_tests, and_left, and_right}
-use Rattle.basics.proofs.Elements.{get_or_replicate_same}
+use Rattle.basics.proofs.Elements.{get_or_replicate_all, get_or_replicate_same}
 use Rattle.rules.specs.declared.Record.{Record}
 use Rattle.rules.specs.declared.Size.{Size}
 use Rattle.rules.specs.Sizes.{width}
@@ -22,8 +24,10 @@ use Rattle.rules.proofs.Replay.InTime.{read_cell, has_stranger}
 use Rattle.rules.proofs.Log.Seats.{walks_earlier, fits_live}
 use Rattle.rules.proofs.Log.LaidOut.{fields_says}
 use Rattle.rules.proofs.Day.Commits.{latest_zero, latest_some}
-use Rattle.check_replay.specs.Kept.{Kept, mark, fresh, whose_kept}
-use Rattle.check_explain.specs.Explained.{PastOnly}
+use Rattle.check_replay.specs.declared.state.Listed.{Listed}
+use Rattle.check_replay.specs.declared.state.Replay.{Replay}
+use Rattle.check_replay.specs.Kept.{nothing, nobody, fresh, whose_kept}
+use Rattle.check_explain.specs.Explained.{Past, PastOnly}
 
 -- the record of k's latest write of the cell, 0 for none
 unfoldable pub latest_write : List Event → ℕ → ℕ → ℕ
@@ -36,16 +40,22 @@ table_record order (e ∷ earlier) c =
     let older = table_record order earlier c in
     cond (member e.who order && (kind_commits e.kind && wrote_cell (e ∷ earlier) e.who c)) (latest_write (e ∷ earlier) e.who c) older
 
+-- the record with a number, none for 0
+abbrev pub record_of : ℕ → Option ℕ
+record_of zero = None
+record_of (suc n) = Some (suc n)
+
 -- what is kept is what the records of the day say of the listed transactions and of t
-pub record Mirrors (z : Size) (t : ℕ) (order : List ℕ) (day : List Record) (s : Kept) : Type 0 where
+pub record Mirrors (z : Size) (t : ℕ) (order : List ℕ) (day : List Record) (s : Replay) : Type 0 where
   -- by place: the begin record of the transaction that holds it
   pub holders : (p : ℕ) → p < z.places → 1 ≤ (seat day p).status → get_or s.holder p 0 ≡ (seat day p).begin
   -- by position: commits, writes and judged reads
-  pub commits : (i : ℕ) → i < length order → get_or s.commit i 0 ≡ commit_of (events day) (get_or order i 0)
-  pub writes : (i c : ℕ) → i < length order → c < z.cells → get_or s.wrote (mark i c) 0 ≡ latest_write (events day) (get_or order i 0) c
-  pub reads : (i c : ℕ) → i < length order → c < z.cells → get_or s.read (mark i c) false ≡ read_cell (events day) (get_or order i 0) c
+  pub commits : (i : ℕ) → i < length order → (get_or s.listed i nobody).commit ≡ record_of (commit_of (events day) (get_or order i 0))
+  pub writes : (i c : ℕ) → i < length order → c < z.cells
+      → get_or (get_or s.listed i nobody).wrote c None ≡ record_of (latest_write (events day) (get_or order i 0) c)
+  pub reads : (i c : ℕ) → i < length order → c < z.cells → get_or (get_or s.listed i nobody).read c false ≡ read_cell (events day) (get_or order i 0) c
   -- by cell: the record that has its value
-  pub tables : (c : ℕ) → c < z.cells → get_or s.table c 0 ≡ table_record order (events day) c
+  pub tables : (c : ℕ) → c < z.cells → get_or s.table c None ≡ record_of (table_record order (events day) c)
   -- the moment of t, and whether somebody unlisted has committed
   pub at_moment : s.moment ≡ moment_of (events day) t
   pub strangers : s.stranger ≡ has_stranger order (events day)
@@ -53,30 +63,39 @@ pub record Mirrors (z : Size) (t : ℕ) (order : List ℕ) (day : List Record) (
   pub past : PastOnly (length day) s
   -- the arrays are whole
   pub holder_length : length s.holder ≡ width
-  pub commit_length : length s.commit ≡ width
-  pub wrote_length : length s.wrote ≡ width * width
-  pub read_length : length s.read ≡ width * width
+  pub listed_length : length s.listed ≡ width
+  pub wrote_length : (i : ℕ) → i < width → length (get_or s.listed i nobody).wrote ≡ width
+  pub read_length : (i : ℕ) → i < width → length (get_or s.listed i nobody).read ≡ width
   pub table_length : length s.table ≡ width
 
--- before the first record
+-- before the first record: nothing is kept of anybody, within the list or past its end
+fresh_each : (P : Listed → Type 0) → P nobody → P nothing → (i : ℕ) → P (get_or (replicate width nothing) i nobody)
+fresh_each P past within i = get_or_replicate_all P width i nothing nobody past within
+
+fresh_within : (i : ℕ) → i < width → get_or (replicate width nothing) i nobody ≡ nothing
+fresh_within i h = get_or-replicate width i nothing nobody h
+
 pub mirrors_fresh : (z : Size) (t : ℕ) (order : List ℕ) → Mirrors z t order [] (fresh t)
 unfolding latest_write table_record seat events latest commit_of committed moment_of read_cell has_stranger any_in
 mirrors_fresh z t order =
     record {
       holders = λ p h k. absurd (not-suc-le-zero k);
-      commits = λ i h. get_or_replicate_same width i 0;
-      writes = λ i c h k. get_or_replicate_same (width * width) (mark i c) 0;
-      reads = λ i c h k. get_or_replicate_same (width * width) (mark i c) false;
-      tables = λ c h. get_or_replicate_same width c 0;
+      commits = λ i h. fresh_each (λ own. own.commit ≡ None) refl refl i;
+      writes = λ i c h k. fresh_each (λ own. get_or own.wrote c None ≡ None) refl (get_or_replicate_same width c None) i;
+      reads = λ i c h k. fresh_each (λ own. get_or own.read c false ≡ false) refl (get_or_replicate_same width c false) i;
+      tables = λ c h. get_or_replicate_same width c None;
       at_moment = refl;
       strangers = refl;
-      past = (λ c. omega (arith, get_or_replicate_same {A = ℕ} width c 0), λ j. omega (arith, get_or_replicate_same {A = ℕ} (width * width) j 0));
+      past = (none_past, λ i. fresh_each (λ own. Past 0 own.wrote) (λ c. tt) none_past i);
       holder_length = length-replicate {A = ℕ} width 0;
-      commit_length = length-replicate {A = ℕ} width 0;
-      wrote_length = length-replicate {A = ℕ} (width * width) 0;
-      read_length = length-replicate {A = Bool} (width * width) false;
-      table_length = length-replicate {A = ℕ} width 0;
+      listed_length = length-replicate {A = Listed} width nothing;
+      wrote_length = λ i h. ap (λ own. length own.wrote) (fresh_within i h) ∙ length-replicate {A = Option ℕ} width None;
+      read_length = λ i h. ap (λ own. length own.read) (fresh_within i h) ∙ length-replicate {A = Bool} width false;
+      table_length = length-replicate {A = Option ℕ} width None;
     }
+  where
+    none_past : Past 0 (replicate width None)
+    none_past c = get_or_replicate_all (λ o. IfSome o (λ w. (1 ≤ w) × (w ≤ 0))) width c None None tt tt
 
 -- the fields of the newest record of a day that walks are right
 pub walks_fields : (z : Size) (r : Record) (day : List Record) → walks z (r ∷ day) ≡ true → FieldsRight z r
@@ -84,7 +103,7 @@ unfolding walks
 walks_fields z r day w = (fields_says z r).0 (and_left (fields_right z r) _ (and_right (walks z day) _ w))
 
 -- whose the next record is
-pub whose_mirrored : (z : Size) (t : ℕ) (order : List ℕ) (day : List Record) (s : Kept) (r : Record) → Mirrors z t order day s
+pub whose_mirrored : (z : Size) (t : ℕ) (order : List ℕ) (day : List Record) (s : Replay) (r : Record) → Mirrors z t order day s
     → walks z (r ∷ day) ≡ true → whose_kept s.holder r (suc (length day)) ≡ whose day r
 unfolding whose
 whose_mirrored z t order day s r m w =
@@ -94,6 +113,11 @@ whose_mirrored z t order day s r m w =
     rw k (m.holders r.place (walks_fields z r day w).place_known (omega arith)))
 
 -- ---- a record number that is not 0
+
+-- there is such a record
+pub some_record : (n : ℕ) → is_some (record_of n) ≡ not (eqb n 0)
+some_record zero = refl
+some_record (suc n) = ap not (sym (ne_eqb (suc n) 0 (λ e. omega arith)))
 
 -- some event of a day passes exactly if the newest that does has a number
 found_told : (passes : Event → Bool) (day : List Record) → any_in passes (events day) ≡ not (eqb (latest passes (events day)) 0)

@@ -1,12 +1,13 @@
 -- Who, listed later, comes to stand before a record's transaction: what is kept says what the day says, kind by kind. Assumes nothing.
 use Prim.Native.Nat.{ℕ, ◌<◌}
 use mathlib.Core.Path.{◌≡◌, refl, sym, ◌∙◌, ap, ap₂}
-use mathlib.Core.Bool.{Bool, true, false, not, ◌&&◌, ◌||◌, or-false}
+use mathlib.Core.Bool.{Bool, true, false, ◌&&◌, ◌||◌, or-false}
 use mathlib.Core.List.{List, ◌∷◌}
 use native.Mathlib.Omega.{arith}
 use lib.ListN.{length, get_or}
 use lib.Dec.{ltb, eqb}
 use borrow.Author.Tests.{eq-eqb, ne_eqb}
+use Rattle.std.proofs.Common.{None, is_some}
 use Rattle.basics.specs.Below.{any_below}
 use Rattle.basics.specs.Lists.{any_in}
 use Rattle.basics.proofs.Bools.{split, and_or, and_fails_left, and_fails_right}
@@ -21,10 +22,13 @@ use Rattle.rules.proofs.Log.KindLaws.{posts_starts, posts_writes, posts_commits,
 use Rattle.rules.proofs.Replay.InTime.{read_cell, committed_cell, arises}
 use Rattle.rules.proofs.Day.Events.{number_bounds, who_bound, whose_starts}
 use Rattle.check_list.specs.Listed.{position}
-use Rattle.check_replay.specs.Kept.{Kept, mark}
-use Rattle.check_later.specs.Later.{committed_later, used_later, any_used_later, overtaken}
+use Rattle.check_replay.specs.declared.state.Replay.{Replay}
+use Rattle.check_replay.specs.Kept.{nobody}
+use Rattle.check_later.specs.declared.later.Uses.{Uses}
+use Rattle.check_later.specs.declared.later.Uses.TheVariants.{Commits, CommitsAndReads}
+use Rattle.check_later.specs.Later.{reads_count, written_used, committed_later, used_later, any_used_later, overtaken}
 use Rattle.check_list.proofs.Positions.{position_found}
-use Rattle.checker.proofs.KeptMirrored.{Mirrors, walks_fields, committed_told, wrote_told}
+use Rattle.checker.proofs.KeptMirrored.{Mirrors, walks_fields, some_record, committed_told, wrote_told}
 
 -- ---- kinds
 
@@ -37,7 +41,7 @@ posts_do k p = (posts_starts k p, posts_read_nothing k p, posts_commits k p)
 
 -- ---- what is kept, and what the day says
 
-module _ (z : Size) (t : ℕ) (order : List ℕ) (day : List Record) (s : Kept) (r : Record) (m : Mirrors z t order day s) (w : walks z (r ∷ day) ≡ true) where
+module _ (z : Size) (t : ℕ) (order : List ℕ) (day : List Record) (s : Replay) (r : Record) (m : Mirrors z t order day s) (w : walks z (r ∷ day) ≡ true) where
   -- the events, the record's event and its transaction, and where that stands
   abbrev es : List Event
   es = events day
@@ -57,16 +61,16 @@ module _ (z : Size) (t : ℕ) (order : List ℕ) (day : List Record) (s : Kept) 
       any_cong (λ i. ltb at i && p (get_or order i 0)) (λ i. ltb at i && q (get_or order i 0)) (length order) (λ i b. ap (λ x. ltb at i && x) (h (get_or order i 0)))
 
   -- who has committed, and who has used a cell
-  committed_kept : (i : ℕ) → i < length order → not (eqb (get_or s.commit i 0) 0) ≡ committed es (get_or order i 0)
-  committed_kept i h = ap (λ n. not (eqb n 0)) (m.commits i h) ∙ sym (committed_told day (get_or order i 0))
+  committed_kept : (i : ℕ) → i < length order → is_some (get_or s.listed i nobody).commit ≡ committed es (get_or order i 0)
+  committed_kept i h = ap is_some (m.commits i h) ∙ some_record _ ∙ sym (committed_told day (get_or order i 0))
 
-  wrote_kept : (i c : ℕ) → i < length order → c < z.cells → not (eqb (get_or s.wrote (mark i c) 0) 0) ≡ wrote_cell es (get_or order i 0) c
-  wrote_kept i c h k = ap (λ n. not (eqb n 0)) (m.writes i c h k) ∙ sym (wrote_told day (get_or order i 0) c)
+  wrote_kept : (i c : ℕ) → i < length order → c < z.cells → is_some (get_or (get_or s.listed i nobody).wrote c None) ≡ wrote_cell es (get_or order i 0) c
+  wrote_kept i c h k = ap is_some (m.writes i c h k) ∙ some_record _ ∙ sym (wrote_told day (get_or order i 0) c)
 
-  committed_later_told : committed_later s.commit at (length order) ≡ any_later (committed es)
+  committed_later_told : committed_later s.listed at (length order) ≡ any_later (committed es)
   unfolding committed_later
   committed_later_told =
-      any_cong (λ i. ltb at i && not (eqb (get_or s.commit i 0) 0)) (λ i. ltb at i && committed es (get_or order i 0)) (length order)
+      any_cong (λ i. ltb at i && is_some (get_or s.listed i nobody).commit) (λ i. ltb at i && committed es (get_or order i 0)) (length order)
       (λ i h. ap (λ b. ltb at i && b) (committed_kept i h))
 
   -- somebody used the cell
@@ -74,17 +78,17 @@ module _ (z : Size) (t : ℕ) (order : List ℕ) (day : List Record) (s : Kept) 
   used c k = committed_cell es k c || read_cell es k c
 
   module _ (c : ℕ) (k : c < z.cells) where
-    used_kept : (reads : Bool) → used_later s.commit s.wrote s.read c at (length order) reads ≡ any_later (λ j. committed_cell es j c || (reads && read_cell es j c))
+    used_kept : (uses : Uses) → used_later s.listed c uses at (length order) ≡ any_later (λ j. committed_cell es j c || (reads_count uses && read_cell es j c))
     unfolding used_later committed_cell
-    used_kept reads =
-        any_cong _ (λ i. ltb at i && (committed_cell es (get_or order i 0) c || (reads && read_cell es (get_or order i 0) c))) (length order)
+    used_kept uses =
+        any_cong _ (λ i. ltb at i && (committed_cell es (get_or order i 0) c || (reads_count uses && read_cell es (get_or order i 0) c))) (length order)
         (λ i h. rw (committed_kept i h, wrote_kept i c h k, m.reads i c h k))
 
-    pub written_later_told : used_later s.commit s.wrote s.read c at (length order) false ≡ any_later (λ j. committed_cell es j c)
-    written_later_told = used_kept false ∙ later_cong (λ j. committed_cell es j c || false) (λ j. committed_cell es j c) (λ j. or-false (committed_cell es j c))
+    pub written_later_told : used_later s.listed c Commits at (length order) ≡ any_later (λ j. committed_cell es j c)
+    written_later_told = used_kept Commits ∙ later_cong (λ j. committed_cell es j c || false) (λ j. committed_cell es j c) (λ j. or-false (committed_cell es j c))
 
-    used_later_told : used_later s.commit s.wrote s.read c at (length order) true ≡ any_later (used c)
-    used_later_told = used_kept true
+    used_later_told : used_later s.listed c CommitsAndReads at (length order) ≡ any_later (used c)
+    used_later_told = used_kept CommitsAndReads
 
   -- ---- who comes to stand before the record's transaction
 
@@ -124,16 +128,16 @@ module _ (z : Size) (t : ℕ) (order : List ℕ) (day : List Record) (s : Kept) 
       (λ i h. ap (λ b. ltb at i && b) (arises_as f (get_or order i 0)) ∙ and_fails_right (ltb at i) false refl)
 
   -- one that starts and does not commit
-  begin_told : Does r.kind true false false → committed_later s.commit at (length order) ≡ any_later (arises z es (event day r))
+  begin_told : Does r.kind true false false → committed_later s.listed at (length order) ≡ any_later (arises z es (event day r))
   begin_told q =
       committed_later_told
       ∙ sym (later_cong (arises z es (event day r)) (committed es) (λ k. arises_as q k ∙ or-false (committed es k)))
 
   -- one that commits and does not start
-  commit_told : at < length order → Does r.kind false false true → any_used_later z s.commit s.wrote s.read at (length order) ≡ any_later (arises z es (event day r))
+  commit_told : at < length order → Does r.kind false false true → any_used_later z s.listed at (length order) ≡ any_later (arises z es (event day r))
   unfolding any_used_later
   commit_told l q =
-      any_cong (λ c. not (eqb (get_or s.wrote (mark at c) 0) 0) && used_later s.commit s.wrote s.read c at (length order) true) (λ c. wrote_cell es who c && any_later (used c)) z.cells
+      any_cong (written_used s.listed at (length order)) (λ c. wrote_cell es who c && any_later (used c)) z.cells
       (λ c h. ap₂ ◌&&◌ (wrote_kept at c l h ∙ ap (λ k. wrote_cell es k c) (position_found order who l)) (used_later_told c h))
       ∙ sym (any_exchange (ltb at) (wrote_cell es who) (λ i c. used c (get_or order i 0)) (length order) z.cells)
       ∙ sym
@@ -144,7 +148,7 @@ module _ (z : Size) (t : ℕ) (order : List ℕ) (day : List Record) (s : Kept) 
 
   -- one that does both
   post_told : kind_posts r.kind ≡ true
-      → committed_later s.commit at (length order) || used_later s.commit s.wrote s.read r.cell at (length order) true ≡ any_later (arises z es (event day r))
+      → committed_later s.listed at (length order) || used_later s.listed r.cell CommitsAndReads at (length order) ≡ any_later (arises z es (event day r))
   post_told q =
       let c = r.cell in
       let known = (walks_fields z r day w).cell_known (writes_have_cell r.kind (posts_writes r.kind q)) in
@@ -162,7 +166,7 @@ module _ (z : Size) (t : ℕ) (order : List ℕ) (day : List Record) (s : Kept) 
 
   -- any kind but a judged read
   pub overtaken_told : at < length order → kind_judged_read r.kind ≡ false
-      → overtaken z s.commit s.wrote s.read r.kind r.cell at (length order) ≡ any_later (arises z es (event day r))
+      → overtaken z s.listed r.kind r.cell at (length order) ≡ any_later (arises z es (event day r))
   unfolding overtaken
   overtaken_told l n =
       let k = r.kind in

@@ -1,16 +1,13 @@
 -- Lists that are refused at once: one with more numbers than places, one with repeats, one without the named transaction; and the checker
 -- answers all that are too long alike. Assumes nothing.
 use Prim.Native.Nat.{ℕ, ◌<◌}
-use mathlib.Core.Path.{◌≡◌, sym, ◌∙◌}
+use mathlib.Core.Path.{◌≡◌, ◌∙◌}
 use mathlib.Core.Bool.{true, false}
 use mathlib.Core.List.{List}
-use lib.ListN.{length, get_or}
-use lib.Dec.{eqb}
+use lib.ListN.{length}
 use native.Mathlib.Omega.{arith}
-use borrow.Author.Tests.{lt-ltb, le-ltb}
 use Rattle.basics.specs.Lists.{member, distinct}
 use Rattle.basics.proofs.Bools.{split, false_of_not, and_left, and_fails_left, and_fails_right}
-use Rattle.basics.proofs.Search.{least_at_most}
 use Rattle.rules.specs.declared.Size.{Size}
 use Rattle.rules.specs.Daylog.{records_in, day_of}
 use Rattle.rules.specs.Layout.{well_laid_out}
@@ -20,8 +17,6 @@ use Rattle.rules.specs.Numbers.{first_reason}
 use Rattle.rules.proofs.Log.LaidOut.{laid_out_has}
 use Rattle.rules.proofs.Replay.CompanyInTime.{company_told}
 use Rattle.rules.proofs.Replay.FewInCompany.{company_few}
-use Rattle.check_list.specs.Listed.{position}
-use Rattle.check_list.proofs.Positions.{position_member}
 
 module _ (z : Size) (opening log : List ℕ) (t : ℕ) where
   -- it is not accepted
@@ -38,21 +33,13 @@ module _ (z : Size) (opening log : List ℕ) (t : ℕ) where
   unfolding accepted lists_company
   repeats_refused order e = and_fails_left (lists_company (log_events log) t order) _ (and_fails_left (distinct order) _ e)
 
-  pub unlisted_refused : (order : List ℕ) → position order t ≡ length order → well_laid_out z log ≡ true → is_transaction (log_events log) t ≡ true
+  pub unlisted_refused : (order : List ℕ) → member t order ≡ false → well_laid_out z log ≡ true → is_transaction (log_events log) t ≡ true
       → accepted z opening (log_events log) t order ≡ false
   unfolding accepted log_events
-  unlisted_refused order e right known =
-      let out : member t order ≡ false = sym (position_member order t) ∙ le-ltb (position order t) (length order) (omega arith) in
+  unlisted_refused order out right known =
       and_fails_left (lists_company (log_events log) t order) _
       (company_told z t order (day_of log (records_in log)) (laid_out_has z log right).2 known
       ∙ and_fails_right (distinct order) _ (and_fails_left (member t order) _ out))
-
-  -- what is found at a position is listed
-  pub listed_there : (order : List ℕ) → (position order t ≡ length order → ⊥) → member t order ≡ true
-  unfolding position
-  listed_there order d =
-      let most = least_at_most (λ i. eqb (get_or order i 0) t) (length order) in
-      sym (position_member order t) ∙ lt-ltb (position order t) (length order) (omega arith)
 
   -- so two lists that are too long have one answer
   pub long_alike : (order order' : List ℕ) → z.places < length order → z.places < length order'

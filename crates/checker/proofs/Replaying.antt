@@ -1,6 +1,6 @@
 -- A replay tells what acceptance asks of each record: one of a listed transaction is explained exactly if it breaks nothing, one of a transaction
 -- that is not listed breaks nothing, and the list is in time exactly if all of it is in the company. Assumes nothing.
-use Prim.Native.Nat.{ℕ, suc, ◌<◌}
+use Prim.Native.Nat.{ℕ, zero, suc, ◌<◌}
 use mathlib.Core.Path.{◌≡◌, refl, sym, ◌∙◌, ap, ap₂, subst}
 use mathlib.Core.Bool.{Bool, true, false, not, cond, ◌&&◌, and-true}
 use mathlib.Core.List.{List, ◌∷◌}
@@ -21,15 +21,16 @@ use Rattle.rules.specs.Sizes.{Within, width}
 use Rattle.rules.specs.Kinds.{kind_judged_read, kind_own_read, kind_sets_moment}
 use Rattle.rules.specs.Daylog.{decode, bytes_at, day_of}
 use Rattle.rules.specs.Layout.{walks}
-use Rattle.rules.specs.Day.{Event, whose, event, events, written_value}
+use Rattle.rules.specs.Day.{Event, whose, event, events, commit_of, moment_of, written_value}
 use Rattle.rules.proofs.Log.KindLaws.{own_reads_start_nothing, own_reads_no_judged, reads_no_own, own_reads_commit_nothing, reads_have_cell, own_reads_have_cell}
 use Rattle.rules.proofs.Replay.InTime.{arises, table_by, in_company, step_right}
-use Rattle.check_replay.specs.Kept.{Kept}
-use Rattle.check_list.specs.Listed.{position, all_in_time}
+use Rattle.check_replay.specs.declared.state.Replay.{Replay}
+use Rattle.check_replay.specs.Kept.{nobody}
+use Rattle.check_list.specs.Listed.{position, before, all_in_time}
 use Rattle.check_later.specs.Later.{overtaken}
 use Rattle.check_explain.specs.Explained.{CellRight, value_at, source, read_explained, own_explained, explained}
 use Rattle.check_list.proofs.Positions.{position_found, position_member, keeps_position}
-use Rattle.checker.proofs.KeptMirrored.{latest_write, Mirrors, walks_fields, committed_told}
+use Rattle.checker.proofs.KeptMirrored.{latest_write, record_of, Mirrors, walks_fields, committed_told}
 use Rattle.checker.proofs.Followed.{cell_within}
 use Rattle.checker.proofs.Valued.{value_of_bytes, valued, write_valued, table_valued, own_read_wrote}
 use Rattle.checker.proofs.Overtaken.{written_later_told, read_arises, none_arises, overtaken_told}
@@ -57,7 +58,7 @@ not_and : (a b : Bool) → not (a && b) ≡ cond a (not b) true
 not_and true b = refl
 not_and false b = refl
 
-module _ (z : Size) (t : ℕ) (order : List ℕ) (once : distinct order ≡ true) (opening log : List ℕ) (day : List Record) (s : Kept) (r : Record)
+module _ (z : Size) (t : ℕ) (order : List ℕ) (once : distinct order ≡ true) (opening log : List ℕ) (day : List Record) (s : Replay) (r : Record)
     (m : Mirrors z t order day s) (w : walks z (r ∷ day) ≡ true) (of_log : day ≡ day_of log (length day)) (next : r ≡ decode (bytes_at log (length day)))
     (l : position order (whose day r) < length order) where
   -- the events, the record's transaction, its cell, where it stands, and who comes to stand before it
@@ -93,18 +94,18 @@ module _ (z : Size) (t : ℕ) (order : List ℕ) (once : distinct order ≡ true
       ap₂ ◌&&◌ (ap not (written_later_told z t order day s r m w c known ∙ sym (read_arises z t order day s r m w q)))
       (ap₂ same value_here (ap (λ n. source opening log n c) (m.tables c known) ∙ table_valued log opening order day c (valued log day of_log)))
 
-  own_says : kind_own_read r.kind ≡ true → own_explained opening log s.wrote c (suc (length day)) at ≡ not overtakes && from_own
+  own_says : kind_own_read r.kind ≡ true → own_explained opening log (get_or s.listed at nobody) c (suc (length day)) ≡ not overtakes && from_own
   unfolding own_explained
   own_says q =
       let known = (walks_fields z r day w).cell_known (own_reads_have_cell r.kind q) in
-      let source_is = m.writes at c l known ∙ ap (λ k. latest_write es k c) (position_found order who l) in
+      let source_is = m.writes at c l known ∙ ap (λ k. record_of (latest_write es k c)) (position_found order who l) in
       ap₂ same value_here
       (ap (λ n. source opening log n c) source_is ∙ write_valued log opening day who c (valued log day of_log) (own_read_wrote z r day w q))
       ∙ ap (λ b. not b && from_own) (sym (none_arises z t order day s r m w (own_reads_start_nothing r.kind q, own_reads_no_judged r.kind q, own_reads_commit_nothing r.kind q)))
 
   -- all but the question who is a stranger
   rest_says : cond (kind_judged_read r.kind) (read_explained opening log s c (suc (length day)) at (length order))
-      (cond (kind_own_read r.kind) (own_explained opening log s.wrote c (suc (length day)) at) (not (overtaken z s.commit s.wrote s.read r.kind c at (length order))))
+      (cond (kind_own_read r.kind) (own_explained opening log (get_or s.listed at nobody) c (suc (length day))) (not (overtaken z s.listed r.kind c at (length order))))
       ≡ not overtakes && (cond (kind_judged_read r.kind) from_table true && cond (kind_own_read r.kind) from_own true)
   rest_says =
       let k = r.kind in
@@ -139,11 +140,15 @@ unlisted_right z opening t order day r n i =
 
 -- ---- the company
 
+before_told : (moment n : ℕ) → before moment (record_of n) ≡ not (eqb n 0) && ltb n moment
+before_told moment zero = refl
+before_told moment (suc n) = rw (ne_eqb (suc n) 0 (λ e. omega arith))
+
 -- the list is in time exactly if all of it is in the company
-pub in_time_says : (z : Size) (t : ℕ) (order : List ℕ) (day : List Record) (s : Kept) → Mirrors z t order day s
-    → all_in_time s.commit s.moment order t ≡ all_in (in_company (events day) t) order
+pub in_time_says : (z : Size) (t : ℕ) (order : List ℕ) (day : List Record) (s : Replay) → Mirrors z t order day s
+    → all_in_time s.listed s.moment order t ≡ all_in (in_company (events day) t) order
 unfolding all_in_time in_company
 in_time_says z t order day s m =
     all_cong _ (λ i. in_company (events day) t (get_or order i 0)) (length order)
-    (λ i h. rw (m.commits i h, m.at_moment, committed_told day (get_or order i 0)))
+    (λ i h. rw (m.commits i h, m.at_moment, committed_told day (get_or order i 0), before_told (moment_of (events day) t) (commit_of (events day) (get_or order i 0))))
     ∙ sym (all_in_below (in_company (events day) t) order)

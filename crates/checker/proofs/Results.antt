@@ -9,6 +9,7 @@ use Rattle.rules.specs.Sizes.{yard, table_bytes}
 use Rattle.rules.specs.Numbers.{granted}
 use Rattle.rules.specs.Layout.{well_laid_out}
 use Rattle.rules.specs.Day.{is_transaction}
+use Rattle.rules.proofs.Answered.{number_settles}
 use Rattle.rules.specs.Checker.{accepted, log_events, checked}
 use Rattle.rules.proofs.Log.LaidOut.{layout_says}
 use Rattle.checker.specs.Statements.{ResultsUnique, Accepts, AnswerSaysAccepted}
@@ -17,7 +18,7 @@ use Rattle.checker.proofs.Answered.{answered_lent, answered_badly, answered_unkn
 pub results_unique : ResultsUnique
 results_unique =
     record {
-      of_checked = λ opening log list begin r r' p q. p ∙ sym q;
+      of_checked = λ opening log list begin r r' p q. number_settles r r' (p ∙ sym q);
       of_nogturshan_check = λ opening log list begin r r' p q. p ∙ sym q;
     }
 

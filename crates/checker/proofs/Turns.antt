@@ -2,14 +2,16 @@
 -- of the log, settles acceptance. Assumes nothing.
 use Prim.Native.Nat.{ℕ, suc, ◌+◌, ◌≤◌, ◌<◌}
 use mathlib.Core.Path.{◌≡◌, refl, sym, ◌∙◌, ap, subst}
-use mathlib.Core.Bool.{true, false}
+use mathlib.Core.Bool.{true, false, cond}
 use mathlib.Core.List.{List, ◌∷◌}
 use native.Mathlib.Decide.{dec_lt}
 use native.Mathlib.Numerals.{add-one}
 use native.Mathlib.Omega.{arith}
-use lib.ListN.{length}
+use lib.ListN.{length, get_or}
 use lib.Dec.{eqb, ltb}
-use borrow.Author.Tests.{le-ltb}
+use borrow.Author.Tests.{lt-ltb, le-ltb}
+use Rattle.std.proofs.Common.{Option, Some, None, IfSome}
+use Rattle.std.proofs.lemmas.Option.{IfSome_then}
 use Rattle.basics.specs.Lists.{member, distinct}
 use Rattle.rules.specs.declared.Record.{Record}
 use Rattle.rules.specs.declared.Size.{Size}
@@ -21,18 +23,19 @@ use Rattle.rules.specs.Checker.{accepted}
 use Rattle.rules.proofs.Replay.InTime.{step_right, replays}
 use Rattle.rules.proofs.Log.StandingLog.{length_day_of}
 use Rattle.log_back.proofs.FollowedLog.{walks_first}
-use Rattle.check_replay.specs.Kept.{Kept, fresh, whose_kept, followed}
-use Rattle.check_list.specs.Listed.{position, all_in_time}
-use Rattle.check_explain.specs.Explained.{PastOnly, CellRight, explained}
+use Rattle.check_replay.specs.declared.state.Replay.{Replay}
+use Rattle.check_replay.specs.Kept.{nobody, fresh, whose_kept, followed}
+use Rattle.check_list.specs.Listed.{position, found, all_in_time}
+use Rattle.check_explain.specs.Explained.{Past, PastOnly, CellRight, explained}
 use Rattle.checker.proofs.KeptMirrored.{Mirrors, mirrors_fresh, whose_mirrored}
 use Rattle.checker.proofs.Followed.{mirrors_more}
-use Rattle.check_list.proofs.Positions.{position_member}
+use Rattle.check_list.proofs.Positions.{position_member, found_told, found_some}
 use Rattle.checker.proofs.Replaying.{explained_says, unlisted_right, in_time_says, cell_right, place_within}
 use Rattle.checker.proofs.Stepwise.{replays_on, accepted_not, accepted_end}
 
 module _ (z : Size) (opening log : List ℕ) (t : ℕ) (order : List ℕ) where
   -- after n records: what is kept mirrors them, and each is explained
-  pub record Turn (n : ℕ) (s : Kept) : Type 0 where
+  pub record Turn (n : ℕ) (s : Replay) : Type 0 where
     pub mirrors : Mirrors z t order (day_of log n) s
     pub explains : replays z opening t order (events (day_of log n)) ≡ true
 
@@ -42,7 +45,7 @@ module _ (z : Size) (opening log : List ℕ) (t : ℕ) (order : List ℕ) where
   turn_none = record { mirrors = mirrors_fresh z t order; explains = refl }
 
   module _ (m : ℕ) (within : Within z) (walk : walks z (day_of log m) ≡ true) (once : distinct order ≡ true) (few : length order ≤ width) where
-    module _ (n : ℕ) (s : Kept) (below : n < m) (turn : Turn n s) where
+    module _ (n : ℕ) (s : Replay) (below : n < m) (turn : Turn n s) where
       -- the next record, behind the first n
       abbrev day : List Record
       day = day_of log n
@@ -66,42 +69,52 @@ module _ (z : Size) (opening log : List ℕ) (t : ℕ) (order : List ℕ) where
 
       pub past_only : PastOnly (n + 1) s
       past_only =
-          let past = turn.mirrors.past in
           let few_records = length_day_of log n in
-          (λ c. omega (arith, past.0 c), λ j. omega (arith, past.1 j))
+          let older : (xs : List (Option ℕ)) → Past (length day) xs → Past (n + 1) xs =
+          λ xs h i. IfSome_then (get_or xs i None) (h i) (λ w k. (k.0, omega arith)) in
+          (older s.table turn.mirrors.past.0, λ i. older (get_or s.listed i nobody).wrote (turn.mirrors.past.1 i))
 
       -- whose it is
       whose_next : whose_kept s.holder next (n + 1) ≡ whose day next
       whose_next = ap (whose_kept s.holder next) (sym number) ∙ whose_mirrored z t order day s next turn.mirrors walk_on
 
-      module _ (who at : ℕ) (its : who ≡ whose_kept s.holder next (n + 1)) (there : at ≡ position order who) where
+      module _ (who : ℕ) (place : Option ℕ) (its : who ≡ whose_kept s.holder next (n + 1)) (there : place ≡ found order who) where
         who_is : who ≡ whose day next
         who_is = its ∙ whose_next
 
-        at_is : at ≡ position order (whose day next)
-        at_is = there ∙ ap (position order) who_is
+        -- where it is listed, if it is
+        abbrev at : ℕ
+        at = position order (whose day next)
+
+        place_is : place ≡ cond (ltb at (length order)) (Some at) None
+        place_is = there ∙ ap (found order) who_is ∙ found_told order (whose day next)
 
         -- that it is explained says that it breaks nothing
         told : at < length order
             → explained z opening log s next (n + 1) at (length order) (eqb who t) ≡ step_right z opening t order (events day) (event day next)
         told h =
-            rw (who_is, at_is, ← number)
+            rw (who_is, ← number)
             (explained_says z t order once opening log day s next turn.mirrors walk_on (ap (day_of log) (sym (length_day_of log n)))
-            (ap (λ (i : ℕ). decode (bytes_at log i)) (sym (length_day_of log n))) (subst (λ (i : ℕ). i < length order) at_is h))
+            (ap (λ (i : ℕ). decode (bytes_at log i)) (sym (length_day_of log n))) h)
+
+        right_there : IfSome place (λ i. explained z opening log s next (n + 1) i (length order) (eqb who t) ≡ true) → at < length order
+            → explained z opening log s next (n + 1) at (length order) (eqb who t) ≡ true
+        right_there right h =
+            let here : place ≡ Some at = place_is ∙ ap (λ b. cond b (Some at) None) (lt-ltb at (length order) h) in
+            subst (λ (o : Option ℕ). IfSome o (λ i. explained z opening log s next (n + 1) i (length order) (eqb who t) ≡ true)) here right
 
         -- one that is explained, or of nobody listed, breaks nothing
-        step : member t order ≡ true → (at < length order → explained z opening log s next (n + 1) at (length order) (eqb who t) ≡ true)
+        step : member t order ≡ true → IfSome place (λ i. explained z opening log s next (n + 1) i (length order) (eqb who t) ≡ true)
             → step_right z opening t order (events day) (event day next) ≡ true
         step listed right =
             elim (dec_lt at (length order)) [
-              | yes h ↦ sym (told h) ∙ right h
-              | no h ↦ unlisted_right z opening t order day next
-                  (sym (position_member order (whose day next)) ∙ ap (λ (i : ℕ). ltb i (length order)) (sym at_is) ∙ le-ltb at (length order) (omega arith)) listed
+              | yes h ↦ sym (told h) ∙ right_there right h
+              | no h ↦ unlisted_right z opening t order day next (sym (position_member order (whose day next)) ∙ le-ltb at (length order) (omega arith)) listed
             ]
 
         -- one that is explained, or of nobody listed, leads to the next turn
-        next_on : member t order ≡ true → (at < length order → explained z opening log s next (n + 1) at (length order) (eqb who t) ≡ true)
-            → Turn (n + 1) (followed z (n + 1) next at (length order) (eqb who t) s)
+        next_on : member t order ≡ true → IfSome place (λ i. explained z opening log s next (n + 1) i (length order) (eqb who t) ≡ true)
+            → Turn (n + 1) (followed z (n + 1) next place (eqb who t) s)
         unfolding day_of
         next_on listed right =
             record {
@@ -109,40 +122,43 @@ module _ (z : Size) (opening log : List ℕ) (t : ℕ) (order : List ℕ) where
               explains = subst (λ (i : ℕ). replays z opening t order (events (day_of log i)) ≡ true) (sym (add-one n)) (replays_on z opening t order log n turn.explains (step listed right));
             }
           where
-            mirrored : Mirrors z t order (day_of log (n + 1)) (followed z (n + 1) next at (length order) (eqb who t) s)
+            mirrored : Mirrors z t order (day_of log (n + 1)) (followed z (n + 1) next place (eqb who t) s)
             mirrored =
-                subst (λ (i : ℕ). Mirrors z t order (day_of log i) (followed z (n + 1) next at (length order) (eqb who t) s)) (sym (add-one n))
-                (rw (who_is, at_is, ← number) (mirrors_more z t order within once few day s next turn.mirrors walk_on))
+                subst (λ (i : ℕ). Mirrors z t order (day_of log i) (followed z (n + 1) next place (eqb who t) s)) (sym (add-one n))
+                (rw (who_is, place_is, ← number) (mirrors_more z t order within once few day s next turn.mirrors walk_on))
 
         -- one that is not explained: the list is not accepted
-        next_fails : is_transaction (events (day_of log m)) t ≡ true → member t order ≡ true → at < length order
-            → explained z opening log s next (n + 1) at (length order) (eqb who t) ≡ false
+        next_fails : is_transaction (events (day_of log m)) t ≡ true → member t order ≡ true → (i : ℕ) → place ≡ Some i
+            → explained z opening log s next (n + 1) i (length order) (eqb who t) ≡ false
             → accepted z opening (events (day_of log m)) t order ≡ false
-        next_fails known listed h wrong = accepted_not z opening t order log m walk known once listed n below (sym (told h) ∙ wrong)
+        next_fails known listed i here wrong =
+            let spot = found_some order (whose day next) i (sym (there ∙ ap (found order) who_is) ∙ here) in
+            let wrong_at = ap (λ (j : ℕ). explained z opening log s next (n + 1) j (length order) (eqb who t)) spot.0 ∙ wrong in
+            accepted_not z opening t order log m walk known once listed n below (sym (told (omega arith)) ∙ wrong_at)
 
       -- the same of the record as it is read
-      pub turn_on : member t order ≡ true → (entry : Record) → entry ≡ next → (who at : ℕ) → who ≡ whose_kept s.holder entry (n + 1) → at ≡ position order who
-          → (at < length order → explained z opening log s entry (n + 1) at (length order) (eqb who t) ≡ true)
-          → Turn (n + 1) (followed z (n + 1) entry at (length order) (eqb who t) s)
+      pub turn_on : member t order ≡ true → (entry : Record) → entry ≡ next → (who : ℕ) (place : Option ℕ) → who ≡ whose_kept s.holder entry (n + 1)
+          → place ≡ found order who → IfSome place (λ i. explained z opening log s entry (n + 1) i (length order) (eqb who t) ≡ true)
+          → Turn (n + 1) (followed z (n + 1) entry place (eqb who t) s)
       turn_on listed entry read =
           subst
-          (λ (r : Record). (who at : ℕ) → who ≡ whose_kept s.holder r (n + 1) → at ≡ position order who
-          → (at < length order → explained z opening log s r (n + 1) at (length order) (eqb who t) ≡ true)
-          → Turn (n + 1) (followed z (n + 1) r at (length order) (eqb who t) s))
-          (sym read) (λ who at its there. next_on who at its there listed)
+          (λ (r : Record). (who : ℕ) (place : Option ℕ) → who ≡ whose_kept s.holder r (n + 1) → place ≡ found order who
+          → IfSome place (λ i. explained z opening log s r (n + 1) i (length order) (eqb who t) ≡ true)
+          → Turn (n + 1) (followed z (n + 1) r place (eqb who t) s))
+          (sym read) (λ who place its there. next_on who place its there listed)
 
-      pub turn_fails : is_transaction (events (day_of log m)) t ≡ true → member t order ≡ true → (entry : Record) → entry ≡ next → (who at : ℕ)
-          → who ≡ whose_kept s.holder entry (n + 1) → at ≡ position order who → at < length order
-          → explained z opening log s entry (n + 1) at (length order) (eqb who t) ≡ false
+      pub turn_fails : is_transaction (events (day_of log m)) t ≡ true → member t order ≡ true → (entry : Record) → entry ≡ next → (who : ℕ) (place : Option ℕ)
+          → who ≡ whose_kept s.holder entry (n + 1) → place ≡ found order who → (i : ℕ) → place ≡ Some i
+          → explained z opening log s entry (n + 1) i (length order) (eqb who t) ≡ false
           → accepted z opening (events (day_of log m)) t order ≡ false
       turn_fails known listed entry read =
           subst
-          (λ (r : Record). (who at : ℕ) → who ≡ whose_kept s.holder r (n + 1) → at ≡ position order who → at < length order
-          → explained z opening log s r (n + 1) at (length order) (eqb who t) ≡ false → accepted z opening (events (day_of log m)) t order ≡ false)
-          (sym read) (λ who at its there. next_fails who at its there known listed)
+          (λ (r : Record). (who : ℕ) (place : Option ℕ) → who ≡ whose_kept s.holder r (n + 1) → place ≡ found order who → (i : ℕ) → place ≡ Some i
+          → explained z opening log s r (n + 1) i (length order) (eqb who t) ≡ false → accepted z opening (events (day_of log m)) t order ≡ false)
+          (sym read) (λ who place its there. next_fails who place its there known listed)
 
     -- at the end: it is accepted exactly if everybody listed is in time
-    pub turn_ends : (s : Kept) → is_transaction (events (day_of log m)) t ≡ true → member t order ≡ true → Turn m s
-        → all_in_time s.commit s.moment order t ≡ accepted z opening (events (day_of log m)) t order
+    pub turn_ends : (s : Replay) → is_transaction (events (day_of log m)) t ≡ true → member t order ≡ true → Turn m s
+        → all_in_time s.listed s.moment order t ≡ accepted z opening (events (day_of log m)) t order
     turn_ends s known listed turn =
         in_time_says z t order (day_of log m) s turn.mirrors ∙ sym (accepted_end z opening t order log m walk known once listed turn.explains)

@@ -1,10 +1,10 @@
 -- Numbers as pairs of bytes: how many there are, each by itself, and that the first 33 tell the checker as much as all. Assumes nothing.
-use Prim.Native.Nat.{ℕ, zero, suc, ◌+◌, ◌*◌, ◌/◌, ◌%◌, ◌≤◌, ◌<◌}
+use Prim.Native.Nat.{ℕ, zero, suc, ◌+◌, ◌*◌, ◌/◌, ◌%◌, ◌≤◌, min}
 use mathlib.Core.Path.{◌≡◌, refl, sym, ◌∙◌, ap}
-use mathlib.Core.Logic.{◌⊎◌, ⊎_elim}
 use mathlib.Core.List.{List, [], ◌∷◌, ◌++◌}
-use lib.ListN.{length, get_or, take, drop, length-append}
+use lib.ListN.{length, get_or, take, drop}
 use lib.Seq.{length-take-le, take_all, take_at}
+use native.Mathlib.Decide.{dec_lt}
 use native.Mathlib.Omega.{arith}
 use borrow.Author.Tests.{eq-eqb, ne_eqb}
 use Rattle.basics.specs.Bytes.{number}
@@ -33,16 +33,6 @@ pair_at (suc i) (low ∷ high ∷ rest) h =
 
 -- ---- the first 33
 
--- all, where there are fewer than 33; else 33
-abbrev pub Counted : ℕ → ℕ → Type 0
-Counted count all = ((all < 33) × (count ≡ all)) ⊎ ((33 ≤ all) × (count ≡ 33))
-
-pub counted_most : {count all : ℕ} → Counted count all → count ≤ 33
-counted_most = ⊎_elim (λ w. omega arith) (λ w. omega arith)
-
-pub counted_within : {count all : ℕ} → Counted count all → count ≤ all
-counted_within = ⊎_elim (λ w. omega arith) (λ w. omega arith)
-
 -- what is unpacked into the front of a longer list, and the front read again
 module _ (bytes zeros got : List ℕ) (count : ℕ) (h : count ≤ length zeros) (k : count ≤ length bytes / 2)
     (e : got ≡ take (length (take count zeros)) (pairs_of bytes)) where
@@ -52,26 +42,21 @@ module _ (bytes zeros got : List ℕ) (count : ℕ) (h : count ≤ length zeros)
   front_length : length got ≡ count
   front_length = ap length front_unpacked ∙ length-take-le count (pairs_of bytes) (omega (arith, pairs_length bytes))
 
-  pub front_room : count ≤ length (got ++ drop count zeros)
-  front_room = omega (arith, front_length, length-append got (drop count zeros))
-
-  pub front_taken : length (take count (got ++ drop count zeros)) ≡ count
-  front_taken = length-take-le count (got ++ drop count zeros) front_room
-
   pub front_read : take count (got ++ drop count zeros) ≡ take count (pairs_of bytes)
   front_read = take_at got (drop count zeros) count front_length ∙ front_unpacked
 
--- with so many numbers the checker answers as with all
-pub counted_alike : (opening log bytes : List ℕ) (t count : ℕ) → length bytes % 2 ≡ 0 → Counted count (length bytes / 2)
+-- with 33 numbers, or all where they are fewer, the checker answers as with all
+pub counted_alike : (opening log bytes : List ℕ) (t count : ℕ) → length bytes % 2 ≡ 0 → count ≡ min 33 (length bytes / 2)
     → checked yard opening log t (take count (pairs_of bytes)) ≡ checked_pairs yard opening log t bytes
 unfolding checked_pairs
-counted_alike opening log bytes t count even =
+counted_alike opening log bytes t count even least =
     let all = pairs_length bytes in
-    ⊎_elim
-    (λ w. rw (eq-eqb (length bytes % 2) 0 even) (ap (checked yard opening log t) (take_all count (pairs_of bytes) (omega arith))))
-    (λ w.
     let size = length-take-le count (pairs_of bytes) (omega arith) in
-    rw (eq-eqb (length bytes % 2) 0 even) (long_alike yard opening log t (take count (pairs_of bytes)) (pairs_of bytes) (omega arith) (omega arith)))
+    rw (eq-eqb (length bytes % 2) 0 even)
+    (elim (dec_lt 33 (length bytes / 2)) [
+      | yes h ↦ long_alike yard opening log t (take count (pairs_of bytes)) (pairs_of bytes) (omega arith) (omega arith)
+      | no h ↦ ap (checked yard opening log t) (take_all count (pairs_of bytes) (omega arith))
+    ])
 
 -- and 1 where the bytes are odd
 pub odd_refused : (opening log bytes : List ℕ) (t : ℕ) → (length bytes % 2 ≡ 0 → ⊥) → lent ≡ checked_pairs yard opening log t bytes

@@ -3,7 +3,7 @@
 use Prim.Native.Nat.{ℕ, zero, suc, ◌+◌, ◌*◌, ◌-◌, ◌≤◌}
 use mathlib.Core.Path.{◌≡◌, refl, sym, ◌∙◌, ap, subst}
 use mathlib.Core.Logic.{⊎_elim}
-use mathlib.Core.Bool.{true, ◌&&◌, false≢true}
+use mathlib.Core.Bool.{true, false, ◌&&◌, false≢true}
 use mathlib.Core.List.Memᴰ
 use mathlib.Core.List.{List, [], ◌∷◌, Memᴰ}
 use native.Mathlib.Omega.{arith}
@@ -13,7 +13,7 @@ use lib.Dec.{eqb}
 use borrow.Author.Tests.{eq-eqb, not-true}
 use Rattle.basics.specs.Bytes.{part}
 use Rattle.basics.specs.Lists.{any_in, member}
-use Rattle.basics.proofs.Bools.{split, clash, and_right, or_left, or_right, cond_fails}
+use Rattle.basics.proofs.Bools.{split, clash, and_right, or_left, or_right}
 use Rattle.basics.proofs.Lists.{member_nil, member_cases}
 use Rattle.rules.specs.declared.Record.{Record}
 use Rattle.rules.specs.declared.Size.{Size}
@@ -30,7 +30,7 @@ use Rattle.rules.proofs.Log.LaidOut.{fits_says}
 use Rattle.rules.proofs.Day.Events.{event_cases, whose_starts, whose_others}
 use Rattle.rules.proofs.Log.StandingLog.{length_day_of}
 use Rattle.check_explain.specs.Explained.{value_at, source}
-use Rattle.checker.proofs.KeptMirrored.{latest_write, table_record, wrote_told}
+use Rattle.checker.proofs.KeptMirrored.{latest_write, table_record, record_of, wrote_told}
 
 -- ---- a record's bytes
 
@@ -79,16 +79,20 @@ module _ (log : List ℕ) where
       let writes = eqb e.who k && (kind_writes e.kind && eqb e.cell c) in
       split writes (λ t. rw t (sym (h e (Memᴰ.head refl)))) (λ f. rw f (latest_valued es k c (λ x m. h x (Memᴰ.tail m)) (rw f at w)))
 
+  source_there : (opening : List ℕ) (n c : ℕ) → eqb n 0 ≡ false → source opening log (record_of n) c ≡ value_at log n
+  source_there opening zero c e = absurd (false≢true (sym e))
+  source_there opening (suc n) c e = refl
+
   pub write_valued : (opening : List ℕ) (day : List Record) (k c : ℕ) → Valued log (events day) → wrote_cell (events day) k c ≡ true
-      → source opening log (latest_write (events day) k c) c ≡ written_value (events day) k c
-  unfolding source
+      → source opening log (record_of (latest_write (events day) k c)) c ≡ written_value (events day) k c
   write_valued opening day k c h w =
-      cond_fails _ _ (not-true (eqb (latest_write (events day) k c) 0) (sym (wrote_told day k c) ∙ w)) ∙ latest_valued (events day) k c h w
+      let last = latest_write (events day) k c in
+      source_there opening last c (not-true (eqb last 0) (sym (wrote_told day k c) ∙ w)) ∙ latest_valued (events day) k c h w
 
   -- the table
   pub table_valued : (opening order : List ℕ) (day : List Record) (c : ℕ) → Valued log (events day)
-      → source opening log (table_record order (events day) c) c ≡ table_by opening order (events day) c
-  unfolding source table_record table_by events event
+      → source opening log (record_of (table_record order (events day) c)) c ≡ table_by opening order (events day) c
+  unfolding table_record table_by events event
   table_valued opening order [] c h = refl
   table_valued opening order (r ∷ day) c h =
       let who = whose day r in

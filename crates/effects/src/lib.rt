@@ -1,5 +1,8 @@
 // What a call does when no reason applies, and the record that it adds.
-#![tactic(auto)]
+#![tactic(auto, using(crate::proofs::ByPlaces::cycle_at, crate::proofs::ByPlaces::order_at, crate::proofs::ByPlaces::order_few), unfolding(rules::specs::Books::closed, rules::specs::Books::lowest_free, rules::specs::Books::with_place, rules::specs::Books::with_record, rules::specs::Judged::books_granted, rules::specs::Judged::granted_of, rules::specs::Judged::judged_of, rules::specs::Judged::meets_conflict, rules::specs::Judged::turned_back, rules::specs::State::recorded, rules::specs::Steps::begin_of, rules::specs::Steps::close_of, rules::specs::Steps::give_up_of, rules::specs::Steps::order_of, rules::specs::Steps::own_read_of, rules::specs::Steps::post_of, rules::specs::Steps::read_of, rules::specs::Steps::write_of, survey::specs::Found::FoundBelow))]
+
+ghost use Rattle.std.specs.Prelude.{◌<◌};
+ghost use Rattle.rules.specs.Sizes.{most_records};
 
 pub mod held;
 pub mod judged;
@@ -7,13 +10,23 @@ pub mod record;
 pub mod taken;
 pub mod whole_day;
 
-use rules::Place;
+use rules::refusal::Refusal;
+use rules::{Controller, Place};
 
-// What a call comes to: its number, the handle of a begin or post or the count of an order, and the books after it.
+// What a call comes to, and the books after it: it gives a handle (begin, post), a count (order), else 0, or why it is refused.
 #[derive(Clone, Copy)]
 pub struct Step {
-    pub number: u8,
-    pub answer: u32,
+    pub given: Result<u32, Refusal>,
     pub records: u16,
     pub places: [Place; 32],
+}
+
+// A transaction at its place, of a controller whose log has room for one record more.
+// The promises name the lent slices: so their lengths are asked for by clauses, and by no type.
+#[derive(Clone, Copy)]
+pub struct Transaction {
+    pub at: Controller,
+    pub place: usize,
+    ghost place_there: { place < at.limits.size.places },
+    ghost room: { at.records < most_records },
 }

@@ -1,5 +1,6 @@
 pub mod CycleAnswer
 pub mod Given
+pub mod Lowest
 pub mod Next
 pub mod Peel
 pub mod Rounds

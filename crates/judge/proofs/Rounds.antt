@@ -11,9 +11,8 @@ use Rattle.basics.specs.Below.{count_below}
 use Rattle.basics.specs.Bytes.{splice}
 use Rattle.basics.specs.Elimination.{without, next, eliminated}
 use Rattle.basics.proofs.Below.{count_zero, count_at_most}
-use Rattle.basics.proofs.Bytes.{splice_length}
 use Rattle.basics.proofs.Elimination.{clear_left}
-use Rattle.basics.proofs.Eliminated.{next_at_most, next_clear, next_empty, eliminated_more, eliminated_end}
+use Rattle.basics.proofs.Eliminated.{next_clear, next_empty, eliminated_more, eliminated_end}
 use Rattle.rules.specs.State.{buffer_after}
 use Rattle.pairs.specs.Square.{is_in}
 use Rattle.judge.proofs.Unmarked.{unmarked_fewer, unmarked_eliminated}
@@ -22,10 +21,6 @@ use Rattle.judge.proofs.Unmarked.{unmarked_fewer, unmarked_eliminated}
 buffer_is : (order buffer : List ℕ) → buffer_after order buffer ≡ order ++ drop (length order) buffer
 unfolding buffer_after splice
 buffer_is order buffer = let e : 0 + length order ≡ length order = omega arith in ap (λ (k : ℕ). order ++ drop k buffer) e
-
-buffer_length : (order buffer : List ℕ) → length order ≤ length buffer → length (buffer_after order buffer) ≡ length buffer
-unfolding buffer_after
-buffer_length order buffer h = splice_length 0 order buffer (omega arith)
 
 -- one number more, put behind the others
 buffer_more : (order buffer : List ℕ) (x count : ℕ) → length order ≡ count → count < length buffer
@@ -54,19 +49,12 @@ put_none n before key present buffer =
 
 module _ {n : ℕ} {before : ℕ → ℕ → Bool} {key : ℕ → ℕ} {present left : List Bool} {count : ℕ} {buffer₀ buffer : List ℕ}
     (sofar : PutSoFar n before key present left count buffer₀ buffer) where
-  pub put_length : n ≤ length buffer₀ → length buffer ≡ length buffer₀
-  put_length fits =
-      let few = sofar.few in
-      let many = sofar.many in
-      ap length sofar.numbers ∙ buffer_length (map key sofar.first) buffer₀ (simp length-map (omega arith))
-
   -- a round takes the next one
-  pub put_more : n ≤ length buffer₀ → (m : ℕ) → m ≡ next n before key (is_in left) → (m ≡ n → ⊥)
+  pub put_more : n ≤ length buffer₀ → (m : ℕ) → next n before key (is_in left) ≡ m → m < n
       → PutSoFar n before key present (set left m false) (count + 1) buffer₀ (set buffer count (key m))
-  put_more fits m e some =
-      let most = next_at_most n before key (is_in left) in
+  put_more fits m e below =
       let marked = clear_left n before (is_in left) (next n before key (is_in left)) (next_clear n before key (is_in left) (omega arith)) in
-      let fewer = unmarked_fewer n before left m (omega arith) (ap (is_in left) e ∙ marked) in
+      let fewer = unmarked_fewer n before left m (omega arith) (ap (is_in left) (sym e) ∙ marked) in
       let few = sofar.few in
       let many = sofar.many in
       record {
@@ -75,7 +63,7 @@ module _ {n : ℕ} {before : ℕ → ℕ → Bool} {key : ℕ → ℕ} {present 
         rest =
             sofar.rest
             ∙ ap (λ (xs : List ℕ). sofar.first ++ xs) (eliminated_more n before key (is_in left) (omega arith))
-            ∙ ap (λ (k : ℕ). sofar.first ++ (k ∷ eliminated n before key (without n before (is_in left) k))) (sym e)
+            ∙ ap (λ (k : ℕ). sofar.first ++ (k ∷ eliminated n before key (without n before (is_in left) k))) e
             ∙ ap (λ (xs : List ℕ). sofar.first ++ (m ∷ xs)) (unmarked_eliminated n before left m key)
             ∙ sym (append_snoc sofar.first m (eliminated n before key (is_in (set left m false))));
         numbers =

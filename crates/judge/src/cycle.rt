@@ -6,6 +6,7 @@ ghost use Rattle.pairs.specs.Square.{is_in, said_before};
 
 // Whether the pairs contain a cycle. Somebody with nobody left before him is taken off, again and again; where somebody is left and nobody
 // can be taken off, there is a cycle, and the search is left with that verdict from inside the passes.
+#[tactic(auto, using(basics::proofs::Below::any_none, crate::proofs::Unmarked::row_skips, crate::proofs::Peel::passed_none))]
 pub fn contains_cycle(rows: [[bool; 32]; 32], present: [bool; 32], places: usize) -> bool
     requires { places ≤ width }
     ensures { (key : ℕ → ℕ) → result ≡ not (gives_all places (said_before rows) key (is_in present)) }
@@ -13,22 +14,17 @@ pub fn contains_cycle(rows: [[bool; 32]; 32], present: [bool; 32], places: usize
     let mut left = present;
     'peel: loop {
         let mut any = false;
-        let mut m = 0;
-        'pass: while m < places {
+        'pass: for m in 0..places {
             if left[m] {
                 any = true;
-                let mut k = 0;
-                while k < places {
+                for k in 0..places {
                     if left[k] && rows[m][k] {
-                        m += 1;
                         continue 'pass;
                     }
-                    k += 1;
                 }
                 left[m] = false;
                 continue 'peel;
             }
-            m += 1;
         }
         return any;
     }

@@ -4,26 +4,24 @@ ghost use Rattle.basics.specs.Elimination.{next};
 ghost use Rattle.rules.specs.Sizes.{width};
 ghost use Rattle.rules.specs.State.{buffer_after};
 ghost use Rattle.pairs.specs.Square.{is_in, said_before};
+ghost use Rattle.survey.specs.Found.{FoundBelow};
 ghost use Rattle.judge.specs.Ordered.{begin_of, ordered};
 
 use pairs::marks;
 
-// The one to take next, with nobody left before him; the number of places if nobody can be taken.
-fn next_of(rows: [[bool; 32]; 32], begins: [u16; 32], left: [bool; 32], places: usize) -> usize
+// The one to take next, with nobody left before him, if anybody can be taken.
+fn next_of(
+    rows: [[bool; 32]; 32],
+    begins: [u16; 32],
+    left: [bool; 32],
+    places: usize,
+) -> Option<usize>
     requires { places ≤ width }
-    ensures { result ≡ next places (said_before rows) (begin_of begins) (is_in left) }
+    ensures { FoundBelow places (next places (said_before rows) (begin_of begins) (is_in left)) result }
 {
-    let mut found = places;
-    let mut m = 0;
-    while m < places {
-        if left[m] && !marks::overlap(left, rows[m], places) {
-            if found == places || begins[m] < begins[found] {
-                found = m;
-            }
-        }
-        m += 1;
-    }
-    found
+    (0..places)
+        .filter(|m| left[*m] && !marks::overlap(left, rows[*m], places))
+        .min_by_key(|m| begins[*m])
 }
 
 // The order of those present into the first numbers of the lent ones, the others staying; the answer is how many.
@@ -39,15 +37,12 @@ pub fn put_order(
     ensures numbers { order.new ≡ buffer_after (map (begin_of begins) (ordered rows begins present places)) order.old }
 {
     let mut left = present;
-    let mut count = 0;
-    while count < places {
-        let m = next_of(rows, begins, left, places);
-        if m == places {
+    for count in 0..places {
+        let Some(m) = next_of(rows, begins, left, places) else {
             return count;
-        }
+        };
         order[count] = begins[m];
         left[m] = false;
-        count += 1;
     }
-    count
+    places
 }

@@ -1,4 +1,3 @@
-pub mod Handed
 pub mod Issuing
 pub mod Results
 pub mod SoundAnswer

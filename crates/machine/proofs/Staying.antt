@@ -15,7 +15,7 @@ use Rattle.rules.proofs.Books.SoundKept.{sound_opened}
 use Rattle.rules.proofs.Calls.SoundCalls.{soundness_kept}
 use Rattle.rules.proofs.Calls.Joined.{log_joins_day}
 use Rattle.machine.specs.declared.books.Books.{Books}
-use Rattle.machine.specs.declared.books.Answer.{Answer}
+use Rattle.machine.specs.declared.books.Told.{Told}
 use Rattle.machine.specs.View.{view}
 use Rattle.machine.specs.Promises.{call_outcome}
 use Rattle.machine.specs.Called.{call_of, lent_to}
@@ -34,7 +34,7 @@ soundness_stays =
           let lent = lent_to b log numbers in
           let RuleCall = call_of call value in
           let state = state_of (view b) table drafts in
-          subst (λ (a : Answer). Good a.books) (sym e) (soundness_kept.soundness yard lent RuleCall state yard_within shaped s, soundness_kept.shape yard lent RuleCall state shaped);
+          subst (λ (a : Told). Good a.books) (sym e) (soundness_kept.soundness yard lent RuleCall state yard_within shaped s, soundness_kept.shape yard lent RuleCall state shaped);
     }
 
 pub lent_log_is_day : LentLogIsDay

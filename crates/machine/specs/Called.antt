@@ -4,24 +4,20 @@ use Rattle.rules.specs.Calls as rule
 use Rattle.rules.specs.Daylog.{commits_in}
 use Rattle.machine.specs.declared.books.Books.{Books}
 use Rattle.machine.specs.declared.call.Call.{Call}
-use Rattle.machine.specs.declared.call.Kind.{Kind}
-use Rattle.machine.specs.declared.call.Kind.TheVariants.{Open, Begin, Write, Read, Show, Commit, GiveUp, Post, Order, Close}
+use Rattle.machine.specs.declared.call.Call.TheVariants.{Open, Begin, Write, Read, Show, Commit, GiveUp, Post, Order, Close}
 
--- the rules' call of that kind, with the handle, cell, number and value that it has
-abbrev pub call_as : Kind → Call → List ℕ → rule.Call
-call_as Open c value = rule.Open
-call_as Begin c value = rule.Begin
-call_as Write c value = rule.Write c.handle c.cell value
-call_as Read c value = rule.Read c.handle c.cell
-call_as Show c value = rule.Show c.given c.handle c.cell
-call_as Commit c value = rule.Commit c.handle
-call_as GiveUp c value = rule.GiveUp c.handle
-call_as Post c value = rule.Post c.cell value
-call_as Order c value = rule.Order c.handle
-call_as Close c value = rule.Close
-
+-- the rules' call, with the value that is lent beside it
 abbrev pub call_of : Call → List ℕ → rule.Call
-call_of c value = call_as c.kind c value
+call_of Open value = rule.Open
+call_of Begin value = rule.Begin
+call_of (Write handle cell) value = rule.Write handle cell value
+call_of (Read handle cell) value = rule.Read handle cell
+call_of (Show given handle cell) value = rule.Show given handle cell
+call_of (Commit handle) value = rule.Commit handle
+call_of (GiveUp handle) value = rule.GiveUp handle
+call_of (Post cell) value = rule.Post cell value
+call_of (Order handle) value = rule.Order handle
+call_of Close value = rule.Close
 
 -- the lengths of the lent log and order buffer, and the commits and posts among the log's records
 abbrev pub lent_to : Books → List ℕ → List ℕ → rule.Lending

@@ -8,8 +8,9 @@ use Rattle.rules.specs.Calls.{issued}
 use Rattle.effects.specs.Left.{Leaves, LogIs, BufferIs, TableAndLog, DraftsAndLog}
 use Rattle.machine.specs.declared.books.Books.{Books}
 use Rattle.machine.specs.declared.books.Answer.{Answer}
+use Rattle.machine.specs.declared.books.Told.{Told}
 use Rattle.machine.specs.declared.call.Call.{Call}
-use Rattle.machine.specs.View.{view, answer_of}
+use Rattle.machine.specs.View.{view, in_numbers, answer_of}
 use Rattle.machine.specs.Called.{call_of, lent_to}
 
 -- ---- the outcome of each call, by its books and what it is lent
@@ -50,21 +51,21 @@ call_outcome b call value table drafts log numbers = issued yard (lent_to b log 
 
 -- the answer and the log: begin, read, give up, close
 abbrev pub LeavesLog : ℕ → List ℕ → Outcome → Answer → List ℕ → Type 0
-LeavesLog records log o r after = Leaves answer_of r (LogIs records log after) o
+LeavesLog records log o r after = Leaves answer_of (in_numbers r) (LogIs records log after) o
 
 -- the table too: commit, post
 abbrev pub LeavesTable : ℕ → List ℕ → Outcome → Answer → List ℕ → List ℕ → Type 0
-LeavesTable records log o r table after = Leaves answer_of r (TableAndLog records table log after) o
+LeavesTable records log o r table after = Leaves answer_of (in_numbers r) (TableAndLog records table log after) o
 
 -- the drafts too: write
 abbrev pub LeavesDrafts : ℕ → List ℕ → Outcome → Answer → List ℕ → List ℕ → Type 0
-LeavesDrafts records log o r drafts after = Leaves answer_of r (DraftsAndLog records drafts log after) o
+LeavesDrafts records log o r drafts after = Leaves answer_of (in_numbers r) (DraftsAndLog records drafts log after) o
 
 -- the answer and the order buffer: order
 abbrev pub LeavesBuffer : List ℕ → Outcome → Answer → List ℕ → Type 0
-LeavesBuffer numbers o r filled = Leaves answer_of r (BufferIs numbers filled) o
+LeavesBuffer numbers o r filled = Leaves answer_of (in_numbers r) (BufferIs numbers filled) o
 
 -- all that a call may be lent: any call by value
-abbrev pub LeavesAll : ℕ → List ℕ → List ℕ → Answer → List ℕ → List ℕ → List ℕ → List ℕ → Outcome → Type 0
+abbrev pub LeavesAll : ℕ → List ℕ → List ℕ → Told → List ℕ → List ℕ → List ℕ → List ℕ → Outcome → Type 0
 LeavesAll records log numbers r table drafts after filled o =
     (r ≡ answer_of o) × ((table ≡ o.after.table) × ((drafts ≡ o.after.drafts) × (LogIs records log after o × BufferIs numbers filled o)))

@@ -11,6 +11,7 @@ use Rattle.rules.specs.Kept.{Joined}
 use Rattle.effects.specs.Left.{LogIs, Shows}
 use Rattle.machine.specs.declared.books.Books.{Books}
 use Rattle.machine.specs.declared.books.Answer.{Answer}
+use Rattle.machine.specs.declared.books.Told.{Told}
 use Rattle.machine.specs.declared.call.Call.{Call}
 use Rattle.machine.specs.View.{view, books_back, answer_of}
 use Rattle.machine.specs.Promises.{begin_outcome, write_outcome, read_outcome, show_outcome, commit_outcome, give_up_outcome, post_outcome, order_outcome, close_outcome, call_outcome, LeavesLog, LeavesTable, LeavesDrafts, LeavesBuffer, LeavesAll}
@@ -51,7 +52,7 @@ pub record ResultsUnique : Type 0 where
       LeavesBuffer numbers o r filled → LeavesBuffer numbers o r' filled' → SameTwo r filled r' filled'
   pub of_close : (b : Books) (log : List ℕ) (r r' : Answer) (after after' : List ℕ) → let o = close_outcome b log in
       LeavesLog b.records log o r after → LeavesLog b.records log o r' after' → SameTwo r after r' after'
-  pub of_stepped : (b : Books) (call : Call) (value table drafts log numbers : List ℕ) (r r' : Answer) (laid laid' put put' after after' filled filled' : List ℕ) → let o = call_outcome b call value table drafts log numbers in
+  pub of_stepped : (b : Books) (call : Call) (value table drafts log numbers : List ℕ) (r r' : Told) (laid laid' put put' after after' filled filled' : List ℕ) → let o = call_outcome b call value table drafts log numbers in
       LeavesAll b.records log numbers r laid put after filled o → LeavesAll b.records log numbers r' laid' put' after' filled' o
       → (r ≡ r') × ((laid ≡ laid') × ((put ≡ put') × ((after ≡ after') × (filled ≡ filled'))))
 
@@ -61,7 +62,7 @@ pub record SoundnessStays : Type 0 where
   -- opened books are sound, and their arrays as wide as declared
   pub opening : (r : Books) → r ≡ books_back opened → (sound yard (view r) ≡ true) × Shaped (view r)
   -- from sound books every call hands back sound books, whatever it is lent
-  pub each_call : (b : Books) (call : Call) (value table drafts log numbers : List ℕ) (r : Answer) → Shaped (view b) → sound yard (view b) ≡ true
+  pub each_call : (b : Books) (call : Call) (value table drafts log numbers : List ℕ) (r : Told) → Shaped (view b) → sound yard (view b) ≡ true
       → r ≡ answer_of (call_outcome b call value table drafts log numbers) → (sound yard (view r.books) ≡ true) × Shaped (view r.books)
 
 -- ---- the lent log is the day

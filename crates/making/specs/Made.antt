@@ -1,24 +1,27 @@
 -- The machine's call for a line of a script.
-use Rattle.std.specs.Prelude.{ℕ, zero, suc, cond, eqb}
+use Rattle.std.specs.Prelude.{ℕ}
 use Rattle.machine.specs.declared.call.Call.{Call}
-use Rattle.machine.specs.declared.call.Kind.{Kind}
-use Rattle.machine.specs.declared.call.Kind.TheVariants.{Open, Begin, Write, Read, Commit, GiveUp, Post, Order, Close}
+use Rattle.machine.specs.declared.call.Call.TheVariants as machine
 use Rattle.script.specs.declared.lines.Line.{Line}
+use Rattle.script.specs.declared.lines.LineKind.{LineKind}
+use Rattle.script.specs.declared.lines.LineKind.TheVariants.{Begin, Write, Read, Commit, GiveUp, Post, Order, Close, Open, Table, Log, Save}
 
--- the machine's kind of call, by the kind of the line: begin, write, read, commit, give up, post, order, close, open
-unfoldable pub kind_for : ℕ → Kind
-kind_for zero = Begin
-kind_for (suc zero) = Write
-kind_for (suc (suc zero)) = Read
-kind_for (suc (suc (suc zero))) = Commit
-kind_for (suc (suc (suc (suc zero)))) = GiveUp
-kind_for (suc (suc (suc (suc (suc zero))))) = Post
-kind_for (suc (suc (suc (suc (suc (suc zero)))))) = Order
-kind_for (suc (suc (suc (suc (suc (suc (suc zero))))))) = Close
-kind_for (suc (suc (suc (suc (suc (suc (suc (suc n)))))))) = Open
+-- the machine's call, by the kind of the line and its numbers: a post names a cell; every other call that has a number names a handle first,
+-- and then a cell; a line that only looks counts as an open
+unfoldable pub call_named : LineKind → ℕ → ℕ → Call
+call_named Begin first second = machine.Begin
+call_named Write first second = machine.Write first second
+call_named Read first second = machine.Read first second
+call_named Commit first second = machine.Commit first
+call_named GiveUp first second = machine.GiveUp first
+call_named Post first second = machine.Post first
+call_named Order first second = machine.Order first
+call_named Close first second = machine.Close
+call_named Open first second = machine.Open
+call_named Table first second = machine.Open
+call_named Log first second = machine.Open
+call_named Save first second = machine.Open
 
--- a post names a cell; every other call that has a number names a handle first, and then a cell
+-- the machine's call for a line
 unfoldable pub call_for : Line → Call
-call_for line =
-    cond (eqb line.kind 5) (record { kind = Post; handle = 0; cell = line.first; given = 0 })
-    (record { kind = kind_for line.kind; handle = line.first; cell = line.second; given = 0 })
+call_for line = call_named line.kind line.first line.second

@@ -1,52 +1,39 @@
 // The machine's call for a line of a script, and its making.
 #![tactic(auto)]
 
-ghost use Rattle.std.specs.Prelude.{◌≡◌, ◌<◌, take};
+ghost use Rattle.std.specs.Prelude.{◌≡◌, take};
 ghost use Rattle.script.specs.LineCalls.{value_on};
 ghost use Rattle.machine.specs.Promises.{call_outcome, LeavesAll};
-ghost use Rattle.making.specs.Made.{kind_for, call_for};
+ghost use Rattle.making.specs.Made.{call_for};
 
-use machine::books::{Answer, Books};
+use machine::books::{Books, Told};
 use machine::call;
-use machine::call::{Call, Kind};
+use machine::call::Call;
 use script::lines;
-use script::lines::Line;
+use script::lines::{Line, LineKind};
 
-// The machine's kind of call, by the kind of the line.
-fn kind_for(kind: usize) -> Kind
-    ensures { result ≡ kind_for kind }
-{
-    match kind {
-        lines::BEGIN => Kind::Begin,
-        lines::WRITE => Kind::Write,
-        lines::READ => Kind::Read,
-        lines::COMMIT => Kind::Commit,
-        lines::GIVE_UP => Kind::GiveUp,
-        lines::POST => Kind::Post,
-        lines::ORDER => Kind::Order,
-        lines::CLOSE => Kind::Close,
-        _ => Kind::Open,
-    }
-}
-
-// The machine's call for a line.
+// The machine's call for a line: a post names a cell; every other call that has a number names a handle first, and then a cell.
+// A line that only looks has a call too, the open: a line of any kind can be made.
+#[tactic(auto, unfolding(crate::specs::Made::call_for, crate::specs::Made::call_named))]
 pub fn call_for(line: Line) -> Call
     ensures { result ≡ call_for line }
 {
-    if line.kind == lines::POST {
-        return Call {
-            kind: Kind::Post,
-            handle: 0,
-            cell: line.first,
-            given: 0,
-        };
-    }
-    let kind = kind_for(line.kind);
-    Call {
-        kind,
-        handle: line.first,
-        cell: line.second,
-        given: 0,
+    match line.kind {
+        LineKind::Begin => Call::Begin,
+        LineKind::Write => Call::Write {
+            handle: line.first,
+            cell: line.second,
+        },
+        LineKind::Read => Call::Read {
+            handle: line.first,
+            cell: line.second,
+        },
+        LineKind::Commit => Call::Commit { handle: line.first },
+        LineKind::GiveUp => Call::GiveUp { handle: line.first },
+        LineKind::Post => Call::Post { cell: line.first },
+        LineKind::Order => Call::Order { handle: line.first },
+        LineKind::Close => Call::Close,
+        LineKind::Open | LineKind::Table | LineKind::Log | LineKind::Save => Call::Open,
     }
 }
 
@@ -59,8 +46,7 @@ pub fn make(
     drafts: &mut [u8],
     log: &mut [u8],
     numbers: &mut [u16],
-) -> Answer
-    requires { line.kind < 12 }
+) -> Told
     ensures { LeavesAll books.records log.old numbers.old result table.new drafts.new log.new numbers.new (call_outcome books (call_for line) (take 128 (value_on content.now line.kind)) table.old drafts.old log.old numbers.old) }
 {
     let mut value = [0u8; lines::VALUE_ROOM];

@@ -7,30 +7,39 @@ use machine::books::Books;
 use machine::call;
 use machine::call::Call;
 use rules::sizes;
+use script::lines::Said;
 use script::{lines, numbers, words};
-use texts::buffer;
+use texts::buffer::Text;
 
 // What is repeated.
-const NOTHING: u8 = 0;
-
-const CALL: u8 = 1;
-
-const SOUND: u8 = 2;
+#[derive(Clone, Copy)]
+enum Asked {
+    Call,
+    Sound,
+}
 
 // A script of so many bytes is too long.
 const ROOM: usize = 262144;
 
 // What the rounds came to: the sum of the numbers given back, the last answer, and the records of the last books.
 #[derive(Clone, Copy)]
-struct Told {
+struct Came {
     sum: u64,
     answer: u32,
     records: u16,
 }
 
+// All that the machine is lent, but the order buffer.
+#[derive(Drop)]
+struct Lent {
+    table: [u8; sizes::TABLE_BYTES],
+    drafts: [u8; sizes::DRAFTS_BYTES],
+    log: [u8; sizes::LOG_BYTES],
+}
+
 // No round.
-fn no_round(books: Books) -> Told {
-    Told {
+fn no_round(books: Books) -> Came {
+    Came {
         sum: 0,
         answer: 0,
         records: books.records,
@@ -38,226 +47,183 @@ fn no_round(books: Books) -> Told {
 }
 
 // Makes the call so many times, on all that is lent as the call before left it.
-fn repeat(
-    books: Books,
-    rounds: u64,
-    made: Call,
-    value: &[u8],
-    table: &mut [u8],
-    drafts: &mut [u8],
-    log: &mut [u8],
-    order: &mut [u16],
-) -> Told {
-    let mut told = no_round(books);
-    let mut left = rounds;
-    while left > 0 {
-        let answer = call::stepped(books, made, value, table, drafts, log, order);
-        let after = answer.books;
-        told = Told {
-            sum: std::num::wrapping_add_u64(told.sum, answer.number as u64),
-            answer: answer.answer,
-            records: after.records,
+fn repeat(books: Books, rounds: u32, made: Call, value: &[u8], lent: &mut Lent) -> Came {
+    let mut order = [0u16; sizes::ORDER_NUMBERS];
+    let mut came = no_round(books);
+    for _ in 0..rounds {
+        let told = call::stepped(
+            books,
+            made,
+            value,
+            &mut lent.table,
+            &mut lent.drafts,
+            &mut lent.log,
+            &mut order,
+        );
+        came = Came {
+            sum: came.sum.wrapping_add(u64::from(told.number)),
+            answer: told.answer,
+            records: told.books.records,
         };
-        left -= 1;
     }
-    told
+    came
 }
 
 // Tests the books so many times. Each time the turn of a place is another one, which says nothing of soundness, so that each test is made.
-fn weigh(start: Books, rounds: u64) -> Told {
+fn weigh(start: Books, rounds: u32) -> Came {
     let mut books = start;
-    let mut told = no_round(start);
-    let mut left = rounds;
-    while left > 0 {
-        books.places[0].turn = (left % 65536) as u16;
+    let mut came = no_round(start);
+    for round in 0..rounds {
+        books.places[0].turn = (round % 65536) as u16;
         if books.is_sound() {
-            told.sum = std::num::wrapping_add_u64(told.sum, 1);
+            came.sum = came.sum.wrapping_add(1);
         }
-        left -= 1;
     }
-    told
+    came
 }
 
-// The line of the script that starts at a place.
-fn line_at(script: &[u8], at: usize) -> &[u8] {
-    if script.len() < at {
-        return script;
-    }
-    let end = words::first_of(script, at, words::LINE_END);
-    &script[at..end]
-}
-
-// The kind of a line: one that is longer than 255 bytes is none of the calls.
-fn kind_of(text: &[u8]) -> usize {
+// What a line says: one that is longer than 255 bytes is none of the calls.
+fn said(text: &[u8]) -> Said {
     if lines::LONGEST < text.len() {
-        return lines::UNKNOWN;
+        return Said::Unknown;
     }
-    let line = lines::parse(words::content(text));
-    line.kind
+    lines::parse(words::content(text))
 }
 
-// Where the line of the last call starts; the script's length if it has no call, or a line that is none of the calls.
-fn last_call(script: &[u8]) -> usize {
-    let mut last = script.len();
-    let mut at = 0;
-    while at < script.len() {
-        let end = words::first_of(script, at, words::LINE_END);
-        let kind = kind_of(&script[at..end]);
-        if kind == lines::UNKNOWN {
-            return script.len();
+// The number of the line, from 0, with the last call; none if the script has no call, or a line that is none of the calls.
+fn last_call(script: &[u8]) -> Option<usize> {
+    let mut last = None;
+    for (i, text) in script.split(|b| *b == b'\n').enumerate() {
+        match said(text) {
+            Said::Nothing => {}
+            Said::Unknown => return None,
+            Said::Call(line) => {
+                if !line.kind.only_looks() {
+                    last = Some(i);
+                }
+            }
         }
-        if kind < lines::TABLE {
-            last = at;
-        }
-        if end == script.len() {
-            return last;
-        }
-        at = end + 1;
     }
     last
 }
 
 // Makes the call of a line; the lines that only look are passed over.
-fn play_line(
-    books: Books,
-    text: &[u8],
-    table: &mut [u8],
-    drafts: &mut [u8],
-    log: &mut [u8],
-) -> Books {
+fn play_line(books: Books, text: &[u8], lent: &mut Lent) -> Books {
     let content = words::content(text);
-    let line = lines::parse(content);
-    if lines::TABLE <= line.kind {
+    let Said::Call(line) = lines::parse(content) else {
+        return books;
+    };
+    if line.kind.only_looks() {
         return books;
     }
     let mut order = [0u16; sizes::ORDER_NUMBERS];
-    let answer = making::make(books, line, content, table, drafts, log, &mut order);
-    answer.books
+    making::make(
+        books,
+        line,
+        content,
+        &mut lent.table,
+        &mut lent.drafts,
+        &mut lent.log,
+        &mut order,
+    )
+    .books
 }
 
-// Makes the calls of all lines.
-fn play_all(
-    start: Books,
-    script: &[u8],
-    table: &mut [u8],
-    drafts: &mut [u8],
-    log: &mut [u8],
-) -> Books {
+// Makes the calls of the first lines.
+fn play_all(start: Books, script: &[u8], count: usize, lent: &mut Lent) -> Books {
     let mut books = start;
-    let mut at = 0;
-    while at < script.len() {
-        let end = words::first_of(script, at, words::LINE_END);
-        books = play_line(books, &script[at..end], table, drafts, log);
-        if end == script.len() {
-            return books;
-        }
-        at = end + 1;
+    for text in script.split(|b| *b == b'\n').take(count) {
+        books = play_line(books, text, lent);
     }
     books
 }
 
 // Makes the call of a line so many times.
-fn repeat_line(
-    books: Books,
-    rounds: u64,
-    text: &[u8],
-    table: &mut [u8],
-    drafts: &mut [u8],
-    log: &mut [u8],
-) -> Told {
+fn repeat_line(books: Books, rounds: u32, text: &[u8], lent: &mut Lent) -> Came {
     let content = words::content(text);
-    let line = lines::parse(content);
-    let mut order = [0u16; sizes::ORDER_NUMBERS];
-    let mut value = [0u8; lines::VALUE_ROOM];
-    if lines::TABLE <= line.kind {
+    let Said::Call(line) = lines::parse(content) else {
         return no_round(books);
-    }
+    };
+    let mut value = [0u8; lines::VALUE_ROOM];
     let n = lines::value_of(content, line.kind, &mut value);
-    repeat(
-        books,
-        rounds,
-        making::call_for(line),
-        &value[..n],
-        table,
-        drafts,
-        log,
-        &mut order,
-    )
+    repeat(books, rounds, making::call_for(line), &value[..n], lent)
 }
 
-// Makes the calls before the last one, which starts at a place, and then does the rounds.
-fn measure(kind: u8, rounds: u64, script: &[u8], last: usize) -> Told {
-    let mut table = [0u8; sizes::TABLE_BYTES];
-    let mut drafts = [0u8; sizes::DRAFTS_BYTES];
-    let mut log = [0u8; sizes::LOG_BYTES];
-    let books = play_all(
-        Books::open(),
-        buffer::front(script, last),
-        &mut table,
-        &mut drafts,
-        &mut log,
-    );
-    if kind == SOUND {
-        return weigh(books, rounds);
+// Makes the calls before the last one, which stands on a line by its number, and then does the rounds.
+fn measure(asked: Asked, rounds: u32, script: &[u8], last: usize) -> Came {
+    let mut lent = Lent {
+        table: [0; sizes::TABLE_BYTES],
+        drafts: [0; sizes::DRAFTS_BYTES],
+        log: [0; sizes::LOG_BYTES],
+    };
+    let books = play_all(Books::open(), script, last, &mut lent);
+    match asked {
+        Asked::Sound => weigh(books, rounds),
+        Asked::Call => {
+            let text = script.split(|b| *b == b'\n').nth(last).unwrap_or(&[]);
+            repeat_line(books, rounds, text, &mut lent)
+        }
     }
-    repeat_line(
-        books,
-        rounds,
-        line_at(script, last),
-        &mut table,
-        &mut drafts,
-        &mut log,
-    )
 }
 
 // What the first argument asks for.
-fn asked(rt: &HostRuntime) -> u8 {
+fn asked_for(rt: &HostRuntime) -> Option<Asked> {
     let mut word = [0u8; 4096];
-    let n = console::argument(rt, 1, &mut word);
-    if check::same(&word[..n], b"call") {
-        return CALL;
+    let n = console::argument(rt, 1, &mut word)?;
+    match &word[..n] {
+        b"call" => Some(Asked::Call),
+        b"sound" => Some(Asked::Sound),
+        _ => None,
     }
-    if check::same(&word[..n], b"sound") {
-        return SOUND;
-    }
-    NOTHING
 }
 
-// How many rounds the second argument asks for; none for an argument that is missing or no number.
-fn how_many(rt: &HostRuntime) -> u64 {
+// How many rounds the second argument asks for; none for an argument that is missing, empty or no number.
+fn how_many(rt: &HostRuntime) -> Option<u32> {
     let mut word = [0u8; 4096];
-    let n = console::argument(rt, 2, &mut word);
+    let n = console::argument(rt, 2, &mut word)?;
     if n == 0 {
-        return numbers::NO_NUMBER;
+        return None;
     }
     numbers::number_of(&word[..n])
 }
 
+// What was asked for and how many rounds, where there are just these two arguments.
+fn arguments(rt: &HostRuntime) -> Option<(Asked, u32)> {
+    if console::argument_count(rt) != 3 {
+        return None;
+    }
+    Some((asked_for(rt)?, how_many(rt)?))
+}
+
+// What the rounds came to; none where the arguments or the script are not right.
+fn measured(rt: &HostRuntime, script: &[u8]) -> Option<Came> {
+    let (asked, rounds) = arguments(rt)?;
+    if script.len() == ROOM {
+        return None;
+    }
+    let last = last_call(script)?;
+    Some(measure(asked, rounds, script, last))
+}
+
 // Prints what the rounds came to.
-fn print_told(rt: &HostRuntime, told: Told) {
+fn print_came(rt: &HostRuntime, came: Came) {
     let mut out = [0u8; 64];
-    let sum = buffer::put_number(&mut out, 0, told.sum);
-    let then = buffer::put(&mut out, sum, b" ");
-    let answer = buffer::put_number(&mut out, then, told.answer as u64);
-    let last = buffer::put(&mut out, answer, b" ");
-    let records = buffer::put_number(&mut out, last, told.records as u64);
-    let end = buffer::put(&mut out, records, b"\n");
-    console::write(rt, buffer::front(&out, end));
+    let mut line = Text::new(&mut out);
+    line.put_number(came.sum);
+    line.put(b" ");
+    line.put_number(u64::from(came.answer));
+    line.put(b" ");
+    line.put_number(u64::from(came.records));
+    console::print(rt, &mut line);
 }
 
 fn main(rt: HostRuntime) {
-    let kind = asked(&rt);
-    let rounds = how_many(&rt);
     let mut input = [0u8; ROOM];
     let n = console::read_full(&rt, &mut input);
-    let script = &input[..n];
-    let last = last_call(script);
-    let is_asked = kind != NOTHING
-        && rounds != numbers::NO_NUMBER
-        && console::argument_count(&rt) == 3;
-    if is_asked && n < ROOM && last < n {
-        print_told(&rt, measure(kind, rounds, script, last));
-    } else {
-        console::write(&rt, b"?\n");
+    match measured(&rt, &input[..n]) {
+        Some(came) => print_came(&rt, came),
+        None => {
+            console::write(&rt, b"?\n");
+        }
     }
 }

@@ -48,5 +48,5 @@ module _ (z : Size) (k m : Place) where
 
   -- K comes first in some cell exactly if one of the three holds
   pub comes_first_says : m.commit ≤ 65535 → ((c : ℕ) → last_read m c ≤ 65535)
-      → comes_first k.written commit k.first m.written sealed m.last z.cells ≡ write_write z k m || (write_read z k m || read_write z k m)
+      → comes_first k commit m sealed z.cells ≡ write_write z k m || (write_read z k m || read_write z k m)
   comes_first_says fits fit = ap₂ ◌||◌ (write_write_seen fits) (ap₂ ◌||◌ (write_read_seen fit) read_write_seen)

@@ -1,6 +1,7 @@
--- A pass over the cells of two places, by the arrays that it looks at.
+-- A pass over the cells of two places.
 use Rattle.std.specs.Prelude.{ℕ, Bool, false, ◌&&◌, ◌||◌, List, get_or, leb, ltb}
 use Rattle.basics.specs.Below.{any_below}
+use Rattle.rules.specs.declared.Place.{Place}
 
 -- some number below the limit is marked in both arrays
 abbrev pub overlap_of : List Bool → List Bool → ℕ → Bool
@@ -14,8 +15,8 @@ read_after_of written commit last cells = any_below (λ c. get_or written c fals
 abbrev pub read_before_of : List ℕ → List Bool → ℕ → ℕ → Bool
 read_before_of first written commit cells = any_below (λ c. get_or written c false && (leb 1 (get_or first c 0) && ltb (get_or first c 0) commit)) cells
 
--- K comes first in some cell, by the cells that K wrote, its commit and its first reads, and the cells that M wrote, its commit and its last reads:
--- a cell that both wrote, K's commit first; one that K wrote and M last read after K's commit; or one that M wrote and K first read before M's commit
-abbrev pub comes_first : List Bool → ℕ → List ℕ → List Bool → ℕ → List ℕ → ℕ → Bool
-comes_first earlier commit first later sealed last cells =
-    (ltb commit sealed && overlap_of earlier later cells) || (read_after_of earlier commit last cells || read_before_of first later sealed cells)
+-- K comes first in some cell, by the commit record of each: a cell that both wrote, K's commit first; one that K wrote and M last read after K's commit;
+-- or one that M wrote and K first read before M's commit
+abbrev pub comes_first : Place → ℕ → Place → ℕ → ℕ → Bool
+comes_first k commit m sealed cells =
+    (ltb commit sealed && overlap_of k.written m.written cells) || (read_after_of k.written commit m.last cells || read_before_of k.first m.written sealed cells)

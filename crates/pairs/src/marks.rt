@@ -4,17 +4,9 @@ ghost use Rattle.rules.specs.Sizes.{width};
 ghost use Rattle.pairs.specs.CellPass.{overlap_of};
 
 // Whether two arrays have a mark in common below the limit.
-#[tactic(auto, using(basics::proofs::Below::any_skips))]
 pub fn overlap(a: [bool; 32], b: [bool; 32], limit: usize) -> bool
     requires { limit ≤ width }
     ensures { result ≡ overlap_of a b limit }
 {
-    let mut k = 0;
-    while k < limit {
-        if a[k] && b[k] {
-            return true;
-        }
-        k += 1;
-    }
-    false
+    (0..limit).any(|k| a[k] && b[k])
 }

@@ -1,34 +1,38 @@
 // The square of pairs: row m says who stands before m, among those present.
-ghost use Rattle.std.specs.Prelude.{◌≡◌};
-ghost use Rattle.rules.specs.Sizes.{Within};
+ghost use Rattle.std.specs.Prelude.{◌≡◌, ◌<◌};
 ghost use Rattle.rules.specs.Books.{of_places};
-ghost use Rattle.pairs.specs.Square.{square_of};
+ghost use Rattle.rules.specs.Sizes.{width};
+ghost use Rattle.pairs.specs.Square.{row_of, square_of};
 
 use crate::pair;
-use rules::{Place, Size};
+use rules::{Limits, Place};
 
-// All rows of those present. The pairs are asked here, and in no function of a row's own, so that the places are not copied for each row.
-#[tactic(auto, using(basics::proofs::Filled::filled_set, basics::proofs::Filled::filled_passed, crate::proofs::Squares::stands_other, crate::proofs::Squares::stands_itself))]
-pub fn square(places: [Place; 32], present: [bool; 32], z: Size) -> [[bool; 32]; 32]
-    requires { Within z }
-    ensures { result ≡ square_of z (of_places places) present }
+// The row of m: who of those present stands before it.
+#[tactic(auto, using(basics::proofs::Filled::filled_none, basics::proofs::Filled::filled_set, basics::proofs::Filled::filled_passed, basics::proofs::Filled::filled_whole, crate::proofs::Squares::stands_other, crate::proofs::Squares::stands_itself), unfolding(crate::specs::Square::row_of))]
+fn row_of(places: &[Place; 32], present: &[bool; 32], m: usize, z: Limits) -> [bool; 32]
+    requires { m < width }
+    ensures { result ≡ row_of z.size (of_places places.now) present.now m }
+{
+    let after = places[m];
+    let mut row = [false; 32];
+    for k in 0..z.size.places {
+        if present[k] && k != m {
+            row[k] = pair::is_before(places[k], after, z);
+        }
+    }
+    row
+}
+
+// All rows of those present.
+#[tactic(auto, using(basics::proofs::Filled::filled_none, basics::proofs::Filled::filled_set, basics::proofs::Filled::filled_passed, basics::proofs::Filled::filled_whole), unfolding(crate::specs::Square::square_of))]
+pub fn square(places: [Place; 32], present: [bool; 32], z: Limits) -> [[bool; 32]; 32]
+    ensures { result ≡ square_of z.size (of_places places) present }
 {
     let mut rows = [[false; 32]; 32];
-    let mut m = 0;
-    while m < z.places {
+    for m in 0..z.size.places {
         if present[m] {
-            let after = places[m];
-            let mut before = [false; 32];
-            let mut k = 0;
-            while k < z.places {
-                if present[k] && k != m {
-                    before[k] = pair::is_before(places[k], after, z);
-                }
-                k += 1;
-            }
-            rows[m] = before;
+            rows[m] = row_of(&places, &present, m, z);
         }
-        m += 1;
     }
     rows
 }

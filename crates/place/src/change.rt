@@ -23,6 +23,7 @@ pub fn cleared(turn: u16) -> Place
 }
 
 // Freed: a place at give up, Conflict or close.
+#[tactic(auto, unfolding(rules::specs::Books::freed))]
 pub fn free(p: Place) -> Place
     ensures { result ≡ freed p }
 {
@@ -30,39 +31,38 @@ pub fn free(p: Place) -> Place
 }
 
 // Begun at the record of number n, with the turn one up.
+#[tactic(auto, unfolding(rules::specs::Books::begun))]
 pub fn begin(p: Place, n: u16) -> Place
     ensures { result ≡ begun p n }
 {
-    let mut begun = cleared(handle::next_turn(p.turn));
-    begun.status = LIVE;
-    begun.begin = n;
-    begun
+    Place {
+        status: LIVE,
+        begin: n,
+        ..cleared(handle::next_turn(p.turn))
+    }
 }
 
 // Begin, write of the cell and commit in one record, number n.
+#[tactic(auto, unfolding(rules::specs::Books::posted, rules::specs::Books::begun, rules::specs::Books::marked, rules::specs::Books::sealed))]
 pub fn post(p: Place, cell: usize, n: u16) -> Place
     requires { cell < width }
     ensures { result ≡ posted p cell n }
 {
-    let mut posted = cleared(handle::next_turn(p.turn));
-    posted.status = COMMITTED;
-    posted.begin = n;
-    posted.commit = n;
-    posted.written[cell] = true;
-    posted
+    commit(mark(begin(p, n), cell), n)
 }
 
 // The cell marked written.
-pub fn mark(p: Place, cell: usize) -> Place
+#[tactic(auto, unfolding(rules::specs::Books::marked))]
+pub fn mark(mut p: Place, cell: usize) -> Place
     requires { cell < width }
     ensures { result ≡ marked p cell }
 {
-    let mut marked = p;
-    marked.written[cell] = true;
-    marked
+    p.written[cell] = true;
+    p
 }
 
 // The first judged read of a cell once there is one at the record of number n: an earlier one is kept.
+// A number, 0 for none: so document 01 keeps a place's reads (`first_kept`).
 fn first_of(earlier: u16, n: u16) -> u16
     ensures { result ≡ first_kept earlier n }
 {
@@ -70,23 +70,24 @@ fn first_of(earlier: u16, n: u16) -> u16
 }
 
 // A judged read of the cell at the record of number n: the first is kept, the last moves.
-pub fn mark_read(p: Place, cell: usize, n: u16) -> Place
+#[tactic(auto, unfolding(rules::specs::Books::read_marked))]
+pub fn mark_read(mut p: Place, cell: usize, n: u16) -> Place
     requires { cell < width }
     ensures { result ≡ read_marked p cell n }
 {
-    let first = first_of(p.first[cell], n);
-    let mut read = p;
-    read.first[cell] = first;
-    read.last[cell] = n;
-    read
+    p.first[cell] = first_of(p.first[cell], n);
+    p.last[cell] = n;
+    p
 }
 
 // Committed at the record of number n.
+#[tactic(auto, unfolding(rules::specs::Books::sealed))]
 pub fn commit(p: Place, n: u16) -> Place
     ensures { result ≡ sealed p n }
 {
-    let mut sealed = p;
-    sealed.status = COMMITTED;
-    sealed.commit = n;
-    sealed
+    Place {
+        status: COMMITTED,
+        commit: n,
+        ..p
+    }
 }

@@ -11,7 +11,7 @@ use rules::sizes::{HANDLES, HANDLES_A_TURN};
 pub fn next_turn(turn: u16) -> u16
     ensures { result ≡ next_turn turn }
 {
-    std::num::wrapping_add_u16(turn, 1)
+    turn.wrapping_add(1)
 }
 
 // The handle of a place and its turn.
@@ -37,7 +37,7 @@ pub fn turn_of(handle: u32) -> u32
 }
 
 // No handle at all: 2,097,152 or more, or of a place that the controller lacks.
-#[tactic(auto, using(crate::proofs::Lookup::past_handles, crate::proofs::Lookup::past_places))]
+#[tactic(auto, unfolding(rules::specs::Handles::out_of_range))]
 pub fn is_out_of_range(handle: u32, z: Size) -> bool
     ensures { result ≡ out_of_range z handle }
 {

@@ -1,81 +1,67 @@
 // The calls of a script: the machine's call for a line is made, what it gives back is printed, and the books are handed on.
 ghost use Rattle.play.specs.Made.{Played};
 
-use crate::{print, print_log, print_table, save};
-use machine::books::{Answer, Books};
+use crate::{print_log, print_table, save};
+use machine::books::{Books, Told};
 use rules::numbers::GRANTED;
 use rules::sizes;
-use script::lines::Line;
-use script::{lines, words};
+use script::lines::{Line, LineKind};
+use script::words;
+use texts::buffer::Text;
 use texts::{answers, buffer};
 
-// What a read shows.
-fn print_read<'a>(
-    rt: &HostRuntime,
-    line: Line,
-    name: &[u8],
-    answer: Answer,
-    table: &'a [u8],
-    drafts: &'a [u8],
-) {
-    let books = answer.books;
-    let shown = books.show(answer.number, line.first, line.second, drafts, table);
-    let mut out = [0u8; 64];
-    let end = answers::value(&mut out, name, answer.number, shown);
-    print(rt, &mut out, end);
+// What a call gives, or the number of its refusal.
+fn given(answer: Told) -> Result<u32, u8> {
+    if answer.number == GRANTED {
+        Ok(answer.answer)
+    } else {
+        Err(answer.number)
+    }
 }
 
-// What an order gives back.
-fn print_order(rt: &HostRuntime, name: &[u8], answer: Answer, numbers: &[u16]) {
-    let mut out = [0u8; 256];
-    let end = answers::order(
-        &mut out,
-        name,
-        answer.number,
-        numbers,
-        answer.answer as usize,
-    );
-    print(rt, &mut out, end);
-}
-
-// A begin or a post: the handle.
-fn print_handle(rt: &HostRuntime, name: &[u8], answer: Answer) {
-    let mut out = [0u8; 64];
-    let end = answers::handle(&mut out, name, answer.number, answer.answer);
-    print(rt, &mut out, end);
-}
-
-// Any other call: its number.
-fn print_number(rt: &HostRuntime, name: &[u8], number: u8) {
-    let mut out = [0u8; 64];
-    let end = answers::number(&mut out, name, number);
-    print(rt, &mut out, end);
-}
-
-// Prints what a call gave back, behind its name as it stands on the line.
+// Prints what a call gave back, behind its name as it stands on the line: what a read shows, an order, the handle of a begin or a post, else
+// the number alone.
 fn print_answer<'a>(
     rt: &HostRuntime,
     line: Line,
     content: &[u8],
-    answer: Answer,
+    answer: Told,
     table: &'a [u8],
     drafts: &'a [u8],
     numbers: &[u16],
 ) {
+    let mut out = [0u8; 256];
+    let mut text = Text::new(&mut out);
     let name = words::word(content, 0);
-    let kind = line.kind;
-    match kind {
-        lines::READ => print_read(rt, line, name, answer, table, drafts),
-        lines::ORDER => print_order(rt, name, answer, numbers),
-        lines::BEGIN | lines::POST => print_handle(rt, name, answer),
-        _ => print_number(rt, name, answer.number),
+    let given = given(answer);
+    match line.kind {
+        LineKind::Read => {
+            let books = answer.books;
+            let shown = books.show(answer.number, line.first, line.second, drafts, table);
+            answers::value(&mut text, name, given.map(|_| shown));
+        }
+        LineKind::Order => {
+            let order = given.map(|count| buffer::front(numbers, count as usize));
+            answers::order(&mut text, name, order);
+        }
+        LineKind::Begin | LineKind::Post => answers::handle(&mut text, name, given),
+        _ => answers::number(&mut text, name, answer.number),
     }
+    console::print(rt, &mut text);
+}
+
+// Prints whether all was saved: 0, else 1.
+fn print_saved(rt: &HostRuntime, is_saved: bool) {
+    let mut out = [0u8; 64];
+    let mut text = Text::new(&mut out);
+    answers::number(&mut text, b"save", u8::from(!is_saved));
+    console::print(rt, &mut text);
 }
 
 // The lines that change nothing: they print what there is, or save it.
 fn look(
     rt: &HostRuntime,
-    kind: usize,
+    kind: LineKind,
     content: &[u8],
     opening: &[u8],
     table: &[u8],
@@ -83,21 +69,17 @@ fn look(
     records: u16,
 ) {
     match kind {
-        lines::TABLE => print_table(rt, table),
-        lines::LOG => print_log(rt, log, records),
-        lines::SAVE => {
-            print_number(
-                rt,
-                b"save",
-                save(rt, words::word(content, 1), opening, log, records),
-            );
+        LineKind::Table => print_table(rt, table),
+        LineKind::Log => print_log(rt, log, records),
+        _ => {
+            let is_saved = save(rt, words::word(content, 1), opening, log, records);
+            print_saved(rt, is_saved);
         }
-        _ => {}
     }
 }
 
-// Plays a line. From the table's on, lines change nothing; an open and a granted close begin a new day, whose opening table is the table as it
-// is.
+// Plays a line. An open and a granted close begin a new day, whose opening table is the table as it is.
+#[tactic(auto, unfolding(crate::specs::Made::line_outcome, crate::specs::Made::opening_after, texts::specs::Said::placed))]
 pub fn play(
     rt: &HostRuntime,
     books: Books,
@@ -111,19 +93,15 @@ pub fn play(
     ensures { Played books line content.now opening.old table.old drafts.old log.old result opening.new table.new drafts.new log.new }
 {
     let kind = line.kind;
-    if lines::TABLE <= kind {
+    if kind.only_looks() {
         look(rt, kind, content, opening, table, log, books.records);
         return books;
     }
     let mut numbers = [0u16; sizes::ORDER_NUMBERS];
     let answer = making::make(books, line, content, table, drafts, log, &mut numbers);
     print_answer(rt, line, content, answer, table, drafts, &numbers);
-    if kind < lines::CLOSE {
-        return answer.books;
+    if matches!(kind, LineKind::Open | LineKind::Close) && answer.number == GRANTED {
+        Text::new(opening).put(table);
     }
-    if answer.number != GRANTED {
-        return answer.books;
-    }
-    buffer::put(opening, 0, table);
     answer.books
 }

@@ -1,218 +1,154 @@
 // What is asked of each call, in the order of the numbers. `value`, `table`, `drafts`, `log` and `numbers` are the lengths of what is lent.
 ghost use Rattle.std.specs.Prelude.{◌≡◌};
-ghost use Rattle.rules.specs.Sizes.{Within};
-ghost use Rattle.rules.specs.Books.{books_of};
-ghost use Rattle.rules.specs.Numbers.{first_reason};
+ghost use Rattle.rules.specs.Books.{books_at};
+ghost use Rattle.rules.specs.Numbers.{granted, first_reason};
+ghost use Rattle.rules.specs.Refusals.{said};
 ghost use Rattle.rules.specs.Steps.{begin_reasons, write_reasons, read_reasons, show_reasons, commit_reasons, give_up_reasons, post_reasons, order_reasons, close_reasons};
 
 use crate::shared;
+use crate::shared::refuse_if;
 use judge::verdict;
-use place::{gate, handle};
-use rules::numbers::{BUSY, GRANTED, LENT, UNSOUND};
+use place::handle;
+use rules::numbers::GRANTED;
+use rules::refusal::Refusal;
+use rules::refusal::Refusal::{Busy, Unsound};
 use rules::sizes::{CELL_BYTES, LOG_BYTES};
-use rules::{Place, Size};
-use sound::whole;
+use rules::{Caller, Controller, refusal};
 use survey::search;
 
 // Begin: 1, 2, 6, 7.
-pub fn of_begin(places: [Place; 32], records: u16, z: Size, log: usize) -> u8
-    requires { Within z }
-    ensures { result ≡ first_reason (begin_reasons z log (books_of records places)) }
+pub fn of_begin(at: Controller, log: usize) -> Result<(), Refusal>
+    ensures { said result ≡ first_reason (begin_reasons at.limits.size log (books_at at)) }
 {
-    if log != LOG_BYTES {
-        return LENT;
-    }
-    if !whole::are_sound(places, records, z) {
-        return UNSOUND;
-    }
-    shared::of_free(places, records, z, search::live_count_of(places, z) + 1)
+    shared::of_lengths([log], [LOG_BYTES])?;
+    shared::of_books(at)?;
+    shared::of_free(at, search::live_count_of(at.places, at.limits) + 1)
 }
 
 // Write: 1, 2, 3, 4, 5, 7.
 pub fn of_write(
-    places: [Place; 32],
-    records: u16,
-    z: Size,
+    at: Controller,
     handle: u32,
     cell: u32,
     value: usize,
     drafts: usize,
     log: usize,
-) -> u8
-    requires { Within z }
-    ensures { result ≡ first_reason (write_reasons z value drafts log (books_of records places) handle cell) }
+) -> Result<(), Refusal>
+    ensures { said result ≡ first_reason (write_reasons at.limits.size value drafts log (books_at at) handle cell) }
 {
-    if shared::any_wrong(
-        value,
-        CELL_BYTES,
-        drafts,
-        shared::drafts_bytes(z),
-        log,
-        LOG_BYTES,
-    ) {
-        return LENT;
-    }
-    shared::of_access(places, records, z, gate::WRITES, handle, cell)
+    let wanted = [CELL_BYTES, shared::drafts_bytes(at.limits), LOG_BYTES];
+    shared::of_lengths([value, drafts, log], wanted)?;
+    shared::of_access(at, Caller::Writes, handle, cell)
 }
 
 // Read: 1, 2, 3, 4, 5, 7.
 pub fn of_read(
-    places: [Place; 32],
-    records: u16,
-    z: Size,
+    at: Controller,
     handle: u32,
     cell: u32,
     table: usize,
     drafts: usize,
     log: usize,
-) -> u8
-    requires { Within z }
-    ensures { result ≡ first_reason (read_reasons z table drafts log (books_of records places) handle cell) }
+) -> Result<(), Refusal>
+    ensures { said result ≡ first_reason (read_reasons at.limits.size table drafts log (books_at at) handle cell) }
 {
-    if shared::any_wrong(
-        table,
-        shared::table_bytes(z),
-        drafts,
-        shared::drafts_bytes(z),
-        log,
+    let wanted = [
+        shared::table_bytes(at.limits),
+        shared::drafts_bytes(at.limits),
         LOG_BYTES,
-    ) {
-        return LENT;
-    }
-    shared::of_access(places, records, z, gate::READS, handle, cell)
+    ];
+    shared::of_lengths([table, drafts, log], wanted)?;
+    shared::of_access(at, Caller::Reads, handle, cell)
 }
 
-// Show: the read's own number, then 1, 2, 3, 4, 5.
-pub fn of_show(
-    places: [Place; 32],
-    records: u16,
-    z: Size,
-    given: u8,
+// What a read would meet of 1, 2, 3, 4, 5.
+fn of_look(
+    at: Controller,
     handle: u32,
     cell: u32,
     table: usize,
     drafts: usize,
-) -> u8
-    requires { Within z }
-    ensures { result ≡ first_reason (show_reasons z table drafts (books_of records places) given handle cell) }
+) -> Result<(), Refusal>
+    ensures { said result ≡ first_reason (show_reasons at.limits.size table drafts (books_at at) granted handle cell) }
+{
+    let wanted = [
+        shared::table_bytes(at.limits),
+        shared::drafts_bytes(at.limits),
+    ];
+    shared::of_lengths([table, drafts], wanted)?;
+    shared::of_handle_and_cell(at, Caller::Reads, handle, cell)
+}
+
+// Show: the read's own number, then 1, 2, 3, 4, 5.
+// A number: the read's own may be any, also one that document 01 does not name.
+pub fn of_show(at: Controller, given: u8, handle: u32, cell: u32, table: usize, drafts: usize) -> u8
+    ensures { result ≡ first_reason (show_reasons at.limits.size table drafts (books_at at) given handle cell) }
 {
     if given != GRANTED {
         return given;
     }
-    if shared::either_wrong(
-        table,
-        shared::table_bytes(z),
-        drafts,
-        shared::drafts_bytes(z),
-    ) {
-        return LENT;
-    }
-    shared::of_handle_and_cell(places, records, z, gate::READS, handle, cell)
+    refusal::said(of_look(at, handle, cell, table, drafts))
 }
 
 // Commit: 1, 2, 3, 4.
 pub fn of_commit(
-    places: [Place; 32],
-    records: u16,
-    z: Size,
+    at: Controller,
     handle: u32,
     table: usize,
     drafts: usize,
     log: usize,
-) -> u8
-    requires { Within z }
-    ensures { result ≡ first_reason (commit_reasons z table drafts log (books_of records places) handle) }
+) -> Result<(), Refusal>
+    ensures { said result ≡ first_reason (commit_reasons at.limits.size table drafts log (books_at at) handle) }
 {
-    if shared::any_wrong(
-        table,
-        shared::table_bytes(z),
-        drafts,
-        shared::drafts_bytes(z),
-        log,
+    let wanted = [
+        shared::table_bytes(at.limits),
+        shared::drafts_bytes(at.limits),
         LOG_BYTES,
-    ) {
-        return LENT;
-    }
-    shared::of_handle(places, records, z, gate::COMMITS, handle)
+    ];
+    shared::of_lengths([table, drafts, log], wanted)?;
+    shared::of_handle(at, Caller::Commits, handle)
 }
 
 // Give up: 1, 2, 3, 4.
-pub fn of_give_up(places: [Place; 32], records: u16, z: Size, handle: u32, log: usize) -> u8
-    requires { Within z }
-    ensures { result ≡ first_reason (give_up_reasons z log (books_of records places) handle) }
+pub fn of_give_up(at: Controller, handle: u32, log: usize) -> Result<(), Refusal>
+    ensures { said result ≡ first_reason (give_up_reasons at.limits.size log (books_at at) handle) }
 {
-    if log != LOG_BYTES {
-        return LENT;
-    }
-    shared::of_handle(places, records, z, gate::GIVES_UP, handle)
+    shared::of_lengths([log], [LOG_BYTES])?;
+    shared::of_handle(at, Caller::GivesUp, handle)
 }
 
 // Post: 1, 2, 5, 6, 7.
 pub fn of_post(
-    places: [Place; 32],
-    records: u16,
-    z: Size,
+    at: Controller,
     cell: u32,
     value: usize,
     table: usize,
     log: usize,
-) -> u8
-    requires { Within z }
-    ensures { result ≡ first_reason (post_reasons z value table log (books_of records places) cell) }
+) -> Result<(), Refusal>
+    ensures { said result ≡ first_reason (post_reasons at.limits.size value table log (books_at at) cell) }
 {
-    if shared::any_wrong(
-        value,
-        CELL_BYTES,
-        table,
-        shared::table_bytes(z),
-        log,
-        LOG_BYTES,
-    ) {
-        return LENT;
-    }
-    if !whole::are_sound(places, records, z) {
-        return UNSOUND;
-    }
-    let number = shared::of_cell(cell, z);
-    if number != GRANTED {
-        return number;
-    }
-    shared::of_free(places, records, z, search::live_count_of(places, z))
+    let wanted = [CELL_BYTES, shared::table_bytes(at.limits), LOG_BYTES];
+    shared::of_lengths([value, table, log], wanted)?;
+    shared::of_books(at)?;
+    shared::of_cell(cell, at.limits)?;
+    shared::of_free(at, search::live_count_of(at.places, at.limits))
 }
 
 // Order: 1, 2, 3, then 2 for a cycle in the company.
-pub fn of_order(places: [Place; 32], records: u16, z: Size, handle: u32, numbers: usize) -> u8
-    requires { Within z }
-    ensures { result ≡ first_reason (order_reasons z numbers (books_of records places) handle) }
+pub fn of_order(at: Controller, handle: u32, numbers: usize) -> Result<(), Refusal>
+    ensures { said result ≡ first_reason (order_reasons at.limits.size numbers (books_at at) handle) }
 {
-    if numbers != z.places {
-        return LENT;
-    }
-    let number = shared::of_handle(places, records, z, gate::ORDERS, handle);
-    if number != GRANTED {
-        return number;
-    }
-    if verdict::is_conflict(places, handle::place_of(handle), z) {
-        UNSOUND
-    } else {
-        GRANTED
-    }
+    shared::of_lengths([numbers], [at.limits.size.places])?;
+    shared::of_handle(at, Caller::Orders, handle)?;
+    let cycle = verdict::is_conflict(at.places, handle::place_of(handle), at.limits);
+    refuse_if(cycle, Unsound)
 }
 
 // Close: 1, 2, 8.
-pub fn of_close(places: [Place; 32], records: u16, z: Size, log: usize) -> u8
-    requires { Within z }
-    ensures { result ≡ first_reason (close_reasons z log (books_of records places)) }
+pub fn of_close(at: Controller, log: usize) -> Result<(), Refusal>
+    ensures { said result ≡ first_reason (close_reasons at.limits.size log (books_at at)) }
 {
-    if log != LOG_BYTES {
-        return LENT;
-    }
-    if !whole::are_sound(places, records, z) {
-        return UNSOUND;
-    }
-    if search::live_count_of(places, z) != 0 {
-        BUSY
-    } else {
-        GRANTED
-    }
+    shared::of_lengths([log], [LOG_BYTES])?;
+    shared::of_books(at)?;
+    refuse_if(search::live_count_of(at.places, at.limits) != 0, Busy)
 }

@@ -1,132 +1,110 @@
 // Reasons that several calls share.
-ghost use Rattle.std.specs.Prelude.{◌≡◌, [], ◌∷◌, ◌++◌, ◌<◌, ◌+◌, ◌||◌};
-ghost use Rattle.rules.specs.Sizes.{Within, table_bytes, drafts_bytes};
-ghost use Rattle.rules.specs.Books.{books_of, no_free, live_count};
-ghost use Rattle.rules.specs.Numbers.{full, ◌if◌, first_reason, wrong};
+ghost use Rattle.std.specs.Prelude.{◌≡◌, [], ◌∷◌, ◌++◌, ◌+◌};
+ghost use Rattle.rules.specs.Sizes.{table_bytes, drafts_bytes};
+ghost use Rattle.rules.specs.Books.{books_at, no_free, live_count};
+ghost use Rattle.rules.specs.Numbers.{lent, full, ◌if◌, first_reason};
+ghost use Rattle.rules.specs.Refusals.{number_of, said};
+ghost use Rattle.reasons.specs.Lengths.{any_wrong};
 ghost use Rattle.rules.specs.Steps.{soundness_reason, handle_reasons, handle_cell_reasons, cell_reason, room_reason};
-ghost use Rattle.place.specs.Rows.{caller};
 
 use place::{gate, handle};
-use rules::numbers::{FULL, GRANTED, LOG_FULL, NO_CELL, UNSOUND};
+use rules::refusal::Refusal;
+use rules::refusal::Refusal::{Full, Lent, LogFull, NoCell, Unsound};
 use rules::sizes::{CELL_BYTES, MOST_RECORDS};
-use rules::{Place, Size};
+use rules::{Caller, Controller, Limits};
 use sound::whole;
 use survey::search;
 
 // The table's length in bytes.
-pub fn table_bytes(z: Size) -> usize
-    requires { Within z }
-    ensures { result ≡ table_bytes z }
+pub fn table_bytes(z: Limits) -> usize
+    ensures { result ≡ table_bytes z.size }
 {
-    CELL_BYTES * z.cells
+    CELL_BYTES * z.size.cells
 }
 
 // The drafts' length in bytes.
-pub fn drafts_bytes(z: Size) -> usize
-    requires { Within z }
-    ensures { result ≡ drafts_bytes z }
+pub fn drafts_bytes(z: Limits) -> usize
+    ensures { result ≡ drafts_bytes z.size }
 {
-    CELL_BYTES * (z.places * z.cells)
+    CELL_BYTES * (z.size.places * z.size.cells)
 }
 
-// Whether one of two lengths is wrong: a should be x, and b should be y.
-pub fn either_wrong(a: usize, x: usize, b: usize, y: usize) -> bool
-    ensures { result ≡ (wrong a x || wrong b y) }
+// One reason: `why` where it applies.
+pub fn refuse_if(applies: bool, why: Refusal) -> Result<(), Refusal>
+    ensures { said result ≡ first_reason ((number_of why if applies) ∷ []) }
 {
-    a != x || b != y
+    if applies { Err(why) } else { Ok(()) }
 }
 
-// Whether one of three lengths is wrong: a should be x, b should be y, and c should be w.
-pub fn any_wrong(a: usize, x: usize, b: usize, y: usize, c: usize, w: usize) -> bool
-    ensures { result ≡ (wrong a x || (wrong b y || wrong c w)) }
+// 1: the lengths of what is lent, and those that are wanted.
+pub fn of_lengths<const N: usize>(lengths: [usize; N], wanted: [usize; N]) -> Result<(), Refusal>
+    ensures { said result ≡ first_reason ((lent if any_wrong lengths.entry wanted.entry) ∷ []) }
 {
-    a != x || either_wrong(b, y, c, w)
+    refuse_if(lengths != wanted, Lent)
+}
+
+// 2: the books.
+pub fn of_books(at: Controller) -> Result<(), Refusal>
+    ensures { said result ≡ first_reason (soundness_reason at.limits.size (books_at at) ∷ []) }
+{
+    refuse_if(!whole::are_sound(at), Unsound)
 }
 
 // 2, 3 and 4: the books and the handle, for each of the five calls that take one.
-#[tactic(auto, using(crate::proofs::Parts::unsound_first))]
-pub fn of_handle(places: [Place; 32], records: u16, z: Size, call: usize, handle: u32) -> u8
-    requires within { Within z }
-    requires call_bound { call < 5 }
-    ensures { result ≡ first_reason (soundness_reason z (books_of records places) ∷ handle_reasons z (caller call) (books_of records places) handle) }
+pub fn of_handle(at: Controller, call: Caller, handle: u32) -> Result<(), Refusal>
+    ensures { said result ≡ first_reason (soundness_reason at.limits.size (books_at at) ∷ handle_reasons at.limits.size call (books_at at) handle) }
 {
-    if !whole::are_sound(places, records, z) {
-        return UNSOUND;
-    }
-    gate::lookup(places[handle::place_of(handle)], z, call, handle)
+    of_books(at)?;
+    gate::lookup(
+        at.places[handle::place_of(handle)],
+        at.limits.size,
+        call,
+        handle,
+    )
 }
 
 // 5: the cell.
-pub fn of_cell(cell: u32, z: Size) -> u8
-    requires { Within z }
-    ensures { result ≡ first_reason (cell_reason z cell ∷ []) }
+pub fn of_cell(cell: u32, z: Limits) -> Result<(), Refusal>
+    ensures { said result ≡ first_reason (cell_reason z.size cell ∷ []) }
 {
-    if z.cells <= cell as usize {
-        NO_CELL
-    } else {
-        GRANTED
-    }
+    refuse_if(z.size.cells <= cell as usize, NoCell)
 }
 
 // 2 to 5: the books, the handle and the cell of a read, write or show.
 pub fn of_handle_and_cell(
-    places: [Place; 32],
-    records: u16,
-    z: Size,
-    call: usize,
+    at: Controller,
+    call: Caller,
     handle: u32,
     cell: u32,
-) -> u8
-    requires within { Within z }
-    requires call_bound { call < 5 }
-    ensures { result ≡ first_reason (handle_cell_reasons z (caller call) (books_of records places) handle cell) }
+) -> Result<(), Refusal>
+    ensures { said result ≡ first_reason (handle_cell_reasons at.limits.size call (books_at at) handle cell) }
 {
-    let number = of_handle(places, records, z, call, handle);
-    if number != GRANTED {
-        return number;
-    }
-    of_cell(cell, z)
+    of_handle(at, call, handle)?;
+    of_cell(cell, at.limits)
 }
 
 // 7: so many records after the call and live ones after it pass 4,000.
-#[tactic(auto, using(crate::proofs::Parts::room_first, crate::proofs::Parts::room_last))]
-pub fn of_room(records: u32, live: u32) -> u8
-    ensures { result ≡ first_reason (room_reason records live ∷ []) }
+pub fn of_room(records: u32, live: u32) -> Result<(), Refusal>
+    ensures { said result ≡ first_reason (room_reason records live ∷ []) }
 {
-    if MOST_RECORDS < records as usize + live as usize {
-        LOG_FULL
-    } else {
-        GRANTED
-    }
+    refuse_if(MOST_RECORDS < records as usize + live as usize, LogFull)
 }
 
 // 6 and 7: a free place, and room in the log for one record more and so many live ones after the call.
-pub fn of_free(places: [Place; 32], records: u16, z: Size, live: u32) -> u8
-    requires { Within z }
-    ensures { result ≡ first_reason ((full if no_free z (books_of records places)) ∷ room_reason (records + 1) live ∷ []) }
+pub fn of_free(at: Controller, live: u32) -> Result<(), Refusal>
+    ensures { said result ≡ first_reason ((full if no_free at.limits.size (books_at at)) ∷ room_reason (at.records + 1) live ∷ []) }
 {
-    if search::lowest_free_of(places, z) == z.places {
-        return FULL;
-    }
-    of_room(records as u32 + 1, live)
+    search::lowest_free_of(at.places, at.limits).ok_or(Full)?;
+    of_room(at.records as u32 + 1, live)
 }
 
 // 2 to 5 and 7: the books, the handle, the cell and the log's room of a read or write.
-pub fn of_access(
-    places: [Place; 32],
-    records: u16,
-    z: Size,
-    call: usize,
-    handle: u32,
-    cell: u32,
-) -> u8
-    requires within { Within z }
-    requires call_bound { call < 5 }
-    ensures { result ≡ first_reason (handle_cell_reasons z (caller call) (books_of records places) handle cell ++ (room_reason (records + 1) (live_count z (books_of records places)) ∷ [])) }
+pub fn of_access(at: Controller, call: Caller, handle: u32, cell: u32) -> Result<(), Refusal>
+    ensures { said result ≡ first_reason (handle_cell_reasons at.limits.size call (books_at at) handle cell ++ (room_reason (at.records + 1) (live_count at.limits.size (books_at at)) ∷ [])) }
 {
-    let number = of_handle_and_cell(places, records, z, call, handle, cell);
-    if number != GRANTED {
-        return number;
-    }
-    of_room(records as u32 + 1, search::live_count_of(places, z))
+    of_handle_and_cell(at, call, handle, cell)?;
+    of_room(
+        at.records as u32 + 1,
+        search::live_count_of(at.places, at.limits),
+    )
 }

@@ -12,32 +12,35 @@ use Rattle.rules.specs.Numbers.{lent, bad_log}
 use Rattle.rules.specs.Daylog.{records_in, commits_in}
 use Rattle.rules.specs.Layout.{well_laid_out}
 use Rattle.rules.specs.Checker.{log_events}
+use Rattle.rules.proofs.Log.LaidOut.{laid_out_has}
 use Rattle.rules.specs.Report.{log_report, refused_line, report}
 use Rattle.texts.specs.Said.{placed, joined}
 use Rattle.texts.proofs.Fitting.{joined_append, all_fit}
-use Rattle.texts.proofs.Saying.{then_placed}
-use Rattle.report.specs.Reported.{first_told, all_told, reported, report_room}
+use Rattle.report.specs.Reported.{first_told, all_told, all_of, reported, report_room}
 use Rattle.report.proofs.Telling.{first_short, all_short, first_is, all_are}
 
 -- ---- the report of a well laid out log
 
 -- the pieces together
-whole : (log : List ℕ) → joined (first_told (records_in log) (commits_in log (records_in log)) ++ all_told log (records_in log)) ≡ log_report log
-unfolding log_report log_events
+whole : (log : List ℕ) → joined (all_of log) ≡ log_report log
+unfolding all_of log_report log_events
 whole log =
     let n = records_in log in
     let total = commits_in log n in
     joined_append (first_told n total) (all_told log n) ∙ ap₂ ◌++◌ (first_is n total) (all_are log n (omega arith))
 
 -- fit into a buffer with room for every report
-pub report_fits : (out log : List ℕ) {records total : ℕ} → report_room ≤ length out → records ≤ most_records → records ≡ records_in log
-    → total ≡ commits_in log records → {then : List ℕ} {next : ℕ} → (then, next) ≡ placed out 0 (first_told records total)
-    → {last : List ℕ} {end : ℕ} → (last, end) ≡ placed then next (all_told log records) → take end last ≡ log_report log
-report_fits out log {records} {total} room few e t first rest =
-    let pieces = first_told records total ++ all_told log records in
-    let size : length (joined pieces) ≤ length out = rw (joined_append, length-append) (omega (arith, first_short records total, all_short log records)) in
-    all_fit out pieces (then_placed out 0 (first_told records total) first (all_told log records) rest) size
-    ∙ rw (t, e) (whole log)
+whole_short : (log : List ℕ) → records_in log ≤ most_records → length (joined (all_of log)) ≤ report_room
+unfolding all_of
+whole_short log few =
+    let n = records_in log in
+    let total = commits_in log n in
+    rw (joined_append, length-append) (omega (arith, first_short n total, all_short log n))
+
+pub report_fits : (z : Size) (out log last : List ℕ) (end : ℕ) → (last, end) ≡ placed out 0 (all_of log) → report_room ≤ length out → well_laid_out z log ≡ true
+    → take end last ≡ log_report log
+report_fits z out log last end e room right =
+    all_fit out (all_of log) e (omega (arith, whole_short log (laid_out_has z log right).1)) ∙ whole log
 
 -- ---- the report of any log
 

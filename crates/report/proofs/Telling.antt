@@ -1,6 +1,6 @@
 -- Laws of a report's lines: one record more, how long they are, and that they are the lines of the rules. Assumes nothing.
 use Prim.Native.Nat.{ℕ, zero, suc, ◌+◌, ◌-◌, ◌*◌, ◌≤◌}
-use mathlib.Core.Path.{◌≡◌, refl, ◌∙◌, ap, ap₂}
+use mathlib.Core.Path.{◌≡◌, refl, sym, ◌∙◌, ap, ap₂}
 use mathlib.Core.Bool.{true, false, cond}
 use mathlib.Core.List.{List, [], ◌++◌, append-nil}
 use native.Mathlib.Numerals.{add-one}
@@ -10,35 +10,49 @@ use Rattle.basics.specs.Text.{text}
 use Rattle.basics.proofs.Bools.{split}
 use Rattle.rules.specs.Kinds.{kind_starts}
 use Rattle.rules.specs.Daylog.{decode, bytes_at, records_in, day_of}
-use Rattle.rules.specs.Day.{event, events, is_transaction, Standing, stands_live, stands_committed, stands_gaveup, stands_conflict, stands_post}
+use Rattle.rules.specs.Day.{event, events, is_transaction, Standing as Stands, stands_live, stands_committed, stands_gaveup, stands_conflict, stands_post}
 use Rattle.rules.specs.Checker.{log_events}
 use Rattle.rules.specs.Report.{standing_word, first_line, transaction_line, transaction_lines}
 use Rattle.rules.proofs.Log.StandingLog.{length_day_of}
-use Rattle.texts.specs.Said.{placed, joined}
+use Rattle.texts.specs.declared.buffer.Text.{Text}
+use Rattle.texts.specs.Said.{placed, joined, Puts}
 use Rattle.texts.proofs.Fitting.{joined_append, decimal_few}
-use Rattle.texts.proofs.Saying.{then_placed}
+use Rattle.texts.proofs.Saying.{placed_append}
+use Rattle.log_back.specs.declared.course.Standing.{Standing}
+use Rattle.log_back.specs.declared.course.Standing.TheVariants.{Live, Committed, GaveUp, Conflict, Post}
 use Rattle.log_back.specs.declared.transaction.Transaction.{Transaction}
-use Rattle.log_back.specs.Course.{standing_number, transaction_of}
+use Rattle.log_back.specs.Course.{standing_of, transaction_of}
 use Rattle.log_back.proofs.Starts.{starts_told}
 use Rattle.report.specs.Reported.{word_told, labelled, first_told, told, all_told}
 
 -- ---- one record more
 
-module _ (out : List ℕ) (at : ℕ) (log : List ℕ) (n : ℕ) {then : List ℕ} {next : ℕ} (so_far : (then, next) ≡ placed out at (all_told log n)) where
-  -- it starts a transaction, whose line is put
-  pub told_more : is_transaction (log_events log) (n + 1) ≡ true → {its : Transaction} → its ≡ transaction_of log (n + 1) → {last : List ℕ} {end : ℕ}
-      → (last, end) ≡ placed then next (told its) → (last, end) ≡ placed out at (all_told log (n + 1))
+-- pieces put behind pieces
+pub puts_more : (before between after : Text) (first rest : List (List ℕ)) → Puts before between first → Puts between after rest
+    → Puts before after (first ++ rest)
+puts_more before between after first rest p q = (
+  q.0 ∙ p.0,
+  q.1 ∙ ap (λ (x : List ℕ × ℕ). placed x.0 x.1 rest) p.1 ∙ sym (placed_append before.out.now before.at first rest),
+)
+
+module _ (log : List ℕ) where
+  pub told_none : all_told log 0 ≡ []
   unfolding all_told
-  told_more starts same line =
+  told_none = refl
+
+  -- it starts a transaction, whose line is put
+  pub told_more : (n : ℕ) (its : Transaction) → is_transaction (log_events log) (n + 1) ≡ true → its ≡ transaction_of log (n + 1)
+      → all_told log (n + 1) ≡ all_told log n ++ told its
+  unfolding all_told
+  told_more n its starts same =
       let here = rw add-one at starts in
-      rw (add-one, here)
-      (then_placed out at (all_told log n) so_far (told (transaction_of log (suc n)))
-      (line ∙ ap (λ (it : Transaction). placed then next (told it)) (same ∙ ap (transaction_of log) (add-one n))))
+      let its_is = rw add-one at same in
+      rw (add-one, here, its_is)
 
   -- it starts none
-  pub told_skips : is_transaction (log_events log) (n + 1) ≡ false → (then, next) ≡ placed out at (all_told log (n + 1))
+  pub told_skips : (n : ℕ) → is_transaction (log_events log) (n + 1) ≡ false → all_told log (n + 1) ≡ all_told log n
   unfolding all_told
-  told_skips other = let here = rw add-one at other in rw (add-one, here, append-nil) so_far
+  told_skips n other = let here = rw add-one at other in rw (add-one, here, append-nil)
 
 -- ---- how long the lines are
 
@@ -48,13 +62,13 @@ unfolding joined first_told labelled text
 first_short records total = simp length-append (omega (arith, decimal_few records, decimal_few total))
 
 -- how a transaction stands
-word_short : (number : ℕ) → length (word_told number) ≤ 9
+word_short : (its : Standing) → length (word_told its) ≤ 9
 unfolding word_told text
-word_short zero = omega arith
-word_short (suc zero) = omega arith
-word_short (suc (suc zero)) = omega arith
-word_short (suc (suc (suc zero))) = omega arith
-word_short (suc (suc (suc (suc number)))) = omega arith
+word_short Live = omega arith
+word_short Committed = omega arith
+word_short GaveUp = omega arith
+word_short Conflict = omega arith
+word_short Post = omega arith
 
 -- a transaction's line
 told_short : (its : Transaction) → length (joined (told its)) ≤ 41
@@ -81,8 +95,8 @@ unfolding joined first_told labelled text first_line
 first_is records total = refl
 
 -- how a transaction stands
-word_is : (s : Standing) → word_told (standing_number s) ≡ standing_word s
-unfolding word_told standing_number standing_word
+word_is : (s : Stands) → word_told (standing_of s) ≡ standing_word s
+unfolding word_told standing_of standing_word
 word_is stands_live = refl
 word_is stands_committed = refl
 word_is stands_gaveup = refl

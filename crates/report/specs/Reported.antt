@@ -5,20 +5,23 @@ use Rattle.basics.specs.Text.{text, decimal}
 use Rattle.rules.specs.declared.Size.{Size}
 use Rattle.rules.specs.Sizes.{most_records}
 use Rattle.rules.specs.Numbers.{bad_log}
+use Rattle.rules.specs.Daylog.{records_in, commits_in}
 use Rattle.rules.specs.Layout.{well_laid_out}
 use Rattle.rules.specs.Day.{is_transaction}
 use Rattle.rules.specs.Checker.{log_events}
 use Rattle.rules.specs.Report.{log_report, refused_line}
+use Rattle.log_back.specs.declared.course.Standing.{Standing}
+use Rattle.log_back.specs.declared.course.Standing.TheVariants.{Live, Committed, GaveUp, Conflict, Post}
 use Rattle.log_back.specs.declared.transaction.Transaction.{Transaction}
 use Rattle.log_back.specs.Course.{transaction_of}
 
--- how a transaction stands, by its number
-unfoldable pub word_told : ℕ → List ℕ
-word_told zero = text "live"
-word_told (suc zero) = text "committed"
-word_told (suc (suc zero)) = text "gaveup"
-word_told (suc (suc (suc zero))) = text "conflict"
-word_told (suc (suc (suc (suc n)))) = text "post"
+-- how a transaction stands
+unfoldable pub word_told : Standing → List ℕ
+word_told Live = text "live"
+word_told Committed = text "committed"
+word_told GaveUp = text "gaveup"
+word_told Conflict = text "conflict"
+word_told Post = text "post"
 
 -- a number behind its label
 unfoldable pub labelled : List ℕ → ℕ → List (List ℕ)
@@ -39,6 +42,10 @@ told its =
 unfoldable pub all_told : List ℕ → ℕ → List (List ℕ)
 all_told log zero = []
 all_told log (suc n) = all_told log n ++ cond (is_transaction (log_events log) (suc n)) (told (transaction_of log (suc n))) []
+
+-- the lines of a whole log
+unfoldable pub all_of : List ℕ → List (List ℕ)
+all_of log = first_told (records_in log) (commits_in log (records_in log)) ++ all_told log (records_in log)
 
 -- the report of any log
 unfoldable pub reported : Size → List ℕ → List ℕ

@@ -11,7 +11,7 @@ use texts::buffer;
 fn main(rt: HostRuntime) {
     let mut input = [0u8; sizes::TABLE_BYTES + sizes::LOG_BYTES + 1];
     let n = console::read_full(&rt, &mut input);
-    let mut out = [0u8; 164064];
+    let mut out = [0u8; day::ROOM];
     let end = day::report(&input[..n], &mut out);
     console::write(&rt, buffer::front(&out, end));
 }

@@ -1,3 +1,4 @@
+pub mod Answered
 pub mod Books
 pub mod Calls
 pub mod CaseA

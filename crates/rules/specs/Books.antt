@@ -2,6 +2,7 @@
 use Rattle.std.specs.Prelude.{ℕ, ◌+◌, ◌%◌, ◌<◌, ◌≡◌, Bool, true, false, ◌||◌, cond, List, [], map, length, get_or, set, replicate, eqb}
 use Rattle.basics.specs.Below.{count_below, least_below}
 use Rattle.rules.specs.declared.Place.{Place}
+use Rattle.rules.specs.declared.Controller.{Controller}
 use Rattle.rules.specs.Sizes.{Size, turns, width}
 
 -- the record count and the places
@@ -108,6 +109,10 @@ place_at b i = get_or b.places i no_place
 -- books by their record count and their places
 abbrev pub books_of : ℕ → List Place → Books
 books_of records places = record { records = records; places = places }
+
+-- the books of a controller
+abbrev pub books_at : Controller → Books
+books_at k = books_of k.records k.places
 
 -- the record that a call adds has this number
 abbrev pub number_of : Books → ℕ

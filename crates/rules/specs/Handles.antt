@@ -1,6 +1,8 @@
 -- Document 01, "Sizes" and "Step rules": a handle is place + 32 × turn, and a call on a handle is looked up by place status.
 use Rattle.std.specs.Prelude.{ℕ, ◌+◌, ◌*◌, ◌/◌, ◌%◌, Bool, true, false, not, cond, ◌&&◌, ◌||◌, leb, eqb}
 use Rattle.rules.specs.declared.Place.{Place}
+pub use Rattle.rules.specs.declared.Caller.{Caller}
+use Rattle.rules.specs.declared.Caller.TheVariants.{Reads, Writes, Commits, GivesUp, Orders}
 use Rattle.rules.specs.Sizes.{Size, handles, handles_a_turn}
 use Rattle.rules.specs.Numbers.{granted, stale, ended}
 use Rattle.rules.specs.Books.{free_status, live_status, Books, place_at, is_free, is_committed, is_held}
@@ -33,17 +35,13 @@ turn_agrees b h = eqb (named_place b h).turn (turn_of h)
 unfoldable pub good_handle : Size → Books → ℕ → Bool
 good_handle z b h = not (out_of_range z h) && (is_held (named_place b h) && turn_agrees b h)
 
--- the five calls that take a handle to a transaction
-pub data Caller : Type 0 where
-  reads writes commits gives_up orders : Caller
-
 -- every call but order asks for a live transaction
 unfoldable pub asks_live : Caller → Bool
-asks_live reads = true
-asks_live writes = true
-asks_live commits = true
-asks_live gives_up = true
-asks_live orders = false
+asks_live Reads = true
+asks_live Writes = true
+asks_live Commits = true
+asks_live GivesUp = true
+asks_live Orders = false
 
 -- 3: handle out of range, place free, or turn differs
 unfoldable pub is_stale : Size → Books → ℕ → Bool

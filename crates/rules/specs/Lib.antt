@@ -13,6 +13,8 @@ pub mod Kept
 pub mod Kinds
 pub mod Layout
 pub mod Numbers
+pub mod RecordKinds
+pub mod Refusals
 pub mod Report
 pub mod Run
 pub mod Runs

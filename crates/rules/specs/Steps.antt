@@ -4,7 +4,8 @@ use Rattle.std.specs.Prelude.{ℕ, ◌+◌, not, cond, ◌||◌, List, [], ◌�
 use Rattle.basics.specs.Below.{any_below}
 use Rattle.rules.specs.Sizes.{Size, cell_bytes, table_bytes, drafts_bytes, log_bytes, order_numbers, most_records}
 use Rattle.rules.specs.Books.{Books, place_at, is_live, wrote, freed, begun, posted, marked, read_marked, sealed, with_place, with_record, number_of, opened, closed, lowest_free, no_free, live_count}
-use Rattle.rules.specs.Handles.{handle_of, place_of, Caller, reads, writes, commits, gives_up, orders, is_stale, is_ended}
+use Rattle.rules.specs.declared.Caller.TheVariants.{Reads, Writes, Commits, GivesUp, Orders}
+use Rattle.rules.specs.Handles.{handle_of, place_of, Caller, is_stale, is_ended}
 use Rattle.rules.specs.Sound.{sound}
 use Rattle.rules.specs.Judging.{has_cycle, given_order}
 use Rattle.rules.specs.Numbers.{granted, lent, unsound, stale, ended, no_cell, full, log_full, busy, Reason, ◌if◌, wrong}
@@ -67,7 +68,7 @@ module _ (z : Size) where
   unfoldable pub write_reasons : ℕ → ℕ → ℕ → Books → ℕ → ℕ → List Reason
   write_reasons value_length drafts_length log_length b h c =
       (lent if (wrong value_length cell_bytes || (wrong drafts_length (drafts_bytes z) || wrong log_length log_bytes)))
-      ∷ (handle_cell_reasons z writes b h c ++ (room_reason (b.records + 1) (live_count z b) ∷ []))
+      ∷ (handle_cell_reasons z Writes b h c ++ (room_reason (b.records + 1) (live_count z b) ∷ []))
 
   unfoldable pub write_of : State → ℕ → ℕ → List ℕ → Outcome
   write_of s i c value =
@@ -87,7 +88,7 @@ module _ (z : Size) where
   unfoldable pub read_reasons : ℕ → ℕ → ℕ → Books → ℕ → ℕ → List Reason
   read_reasons table_length drafts_length log_length b h c =
       (lent if (wrong table_length (table_bytes z) || (wrong drafts_length (drafts_bytes z) || wrong log_length log_bytes)))
-      ∷ (handle_cell_reasons z reads b h c ++ (room_reason (b.records + 1) (live_count z b) ∷ []))
+      ∷ (handle_cell_reasons z Reads b h c ++ (room_reason (b.records + 1) (live_count z b) ∷ []))
 
   -- a read of a written cell: its draft is recorded
   unfoldable pub own_read_of : State → ℕ → ℕ → Outcome
@@ -122,7 +123,7 @@ module _ (z : Size) where
   show_reasons table_length drafts_length b given h c =
       (given if not (eqb given granted))
       ∷ (lent if (wrong table_length (table_bytes z) || wrong drafts_length (drafts_bytes z)))
-      ∷ handle_cell_reasons z reads b h c
+      ∷ handle_cell_reasons z Reads b h c
 
   unfoldable pub show_of : State → ℕ → ℕ → Outcome
   show_of s i c =
@@ -145,7 +146,7 @@ module _ (z : Size) where
   commit_reasons table_length drafts_length log_length b h =
       (lent if (wrong table_length (table_bytes z) || (wrong drafts_length (drafts_bytes z) || wrong log_length log_bytes)))
       ∷ soundness_reason z b
-      ∷ handle_reasons z commits b h
+      ∷ handle_reasons z Commits b h
 
   -- granted: the written cells' drafts go into the table
   abbrev pub judged_commit : State → ℕ → Judged
@@ -171,7 +172,7 @@ module _ (z : Size) where
   -- ---- Give up frees the place.
 
   unfoldable pub give_up_reasons : ℕ → Books → ℕ → List Reason
-  give_up_reasons log_length b h = (lent if wrong log_length log_bytes) ∷ soundness_reason z b ∷ handle_reasons z gives_up b h
+  give_up_reasons log_length b h = (lent if wrong log_length log_bytes) ∷ soundness_reason z b ∷ handle_reasons z GivesUp b h
 
   unfoldable pub give_up_of : State → ℕ → Outcome
   give_up_of s i =
@@ -213,7 +214,7 @@ module _ (z : Size) where
   order_reasons buffer_length b h =
       (lent if wrong buffer_length (order_numbers z))
       ∷ soundness_reason z b
-      ∷ (handle_reasons z orders b h ++ ((unsound if has_cycle z b (place_of h)) ∷ []))
+      ∷ (handle_reasons z Orders b h ++ ((unsound if has_cycle z b (place_of h)) ∷ []))
 
   unfoldable pub order_of : State → ℕ → Outcome
   order_of s i =

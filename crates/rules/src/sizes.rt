@@ -2,7 +2,7 @@
 ghost use Rattle.std.specs.Prelude.{◌≡◌};
 ghost use Rattle.rules.specs.Sizes.{yard};
 
-use crate::Size;
+use crate::{Limits, Size};
 
 // 32 places for transactions, 32 cells.
 pub const PLACES: usize = 32;
@@ -45,4 +45,11 @@ pub fn yard_size() -> Size
         places: PLACES,
         cells: CELLS,
     }
+}
+
+// Its limits: both are within the widths of the arrays.
+pub fn yard_limits() -> Limits
+    ensures { result.size ≡ yard }
+{
+    Limits { size: yard_size() }
 }

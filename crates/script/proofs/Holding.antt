@@ -1,4 +1,4 @@
--- Laws of what a buffer holds: how much of a line, and bytes put in at its front, one by one. Assumes nothing.
+-- Laws of bytes put in at the front of a buffer, one by one. Assumes nothing.
 use mathlib.Core.Path.{◌≡◌, refl, sym, ◌∙◌}
 use mathlib.Core.List.{List, [], ◌∷◌, append_assoc}
 use Prim.Native.Nat.{ℕ, suc, ◌+◌, ◌<◌, ◌≤◌}
@@ -9,21 +9,7 @@ use native.Mathlib.Omega.{arith}
 use lib.ListN.{length, get_or, take, drop, set}
 use lib.Seq.{drop_at, drop-cons, length-take-le, set_at, take_all, take_at, take-length, take-suc}
 use borrow.Author.Tests.{le-leb, lt-leb}
-use Rattle.texts.specs.Placed.{after_text}
 use Rattle.script.specs.Fronts.{at_most, with_front}
-use Rattle.script.specs.Pieces.{held_then}
-
--- how much of a line is held
-module _ (room held n : ℕ) where
-  pub held_too_many : room < held + n → room + 1 ≡ held_then room held n
-  unfolding held_then
-  held_too_many h = rw (lt-leb (held + n) room h)
-
-  pub held_all : held + n ≤ room → after_text room held n ≡ held_then room held n
-  unfolding held_then after_text
-  held_all h = rw (le-leb (held + n) room h)
-
--- ---- bytes put in at the front, one by one
 
 pub front_none : (xs bytes : List ℕ) → xs ≡ with_front xs 0 bytes
 unfolding with_front
@@ -35,16 +21,6 @@ module _ (xs bytes : List ℕ) (n : ℕ) (within : n ≤ length bytes) where
   front_more h k e q =
       rw (e, q, drop-cons xs n 0 h, set_at (take n bytes) (get_or xs n 0) (drop (suc n) xs) (get_or bytes n 0) n (length-take-le n bytes within), add-one, take-suc bytes n 0 k)
       (sym (append_assoc (take n bytes) (get_or bytes n 0 ∷ []) (drop (suc n) xs)))
-
--- as many as there are, or as there is room for
-module _ (room n : ℕ) {i : ℕ} where
-  pub at_most_all : i ≡ n → n ≤ room → i ≡ at_most room n
-  unfolding at_most
-  at_most_all e h = rw (le-leb n room h) e
-
-  pub at_most_room : i ≡ room → room < n → i ≡ at_most room n
-  unfolding at_most
-  at_most_room e h = rw (lt-leb n room h) e
 
 -- what stands at the front, and behind it
 module _ (xs bytes : List ℕ) (n : ℕ) (within : n ≤ length bytes) where

@@ -1,4 +1,3 @@
-pub mod Calling
 pub mod HexLaws
 pub mod Holding
 pub mod Naming

@@ -1,28 +1,29 @@
 -- What is printed reads back as it was: numbers of 32 bits, and bytes. Assumes nothing.
 use mathlib.Core.Path.{◌≡◌, refl, sym, ◌∙◌, ap, ap₂}
-use mathlib.Core.Bool.{true, not}
+use mathlib.Core.Bool.{true}
 use mathlib.Core.List.{List, [], ◌∷◌, ◌++◌}
 use Prim.Native.Nat.{ℕ, zero, suc, ◌+◌, ◌-◌, ◌*◌, ◌/◌, ◌%◌, ◌^◌, ◌<◌}
-use native.Mathlib.Nat.{pow-suc, div-lt_iff_lt-mul, zero-lt-suc, not-suc-le-zero}
+use native.Mathlib.Nat.{pow-suc, div-lt_iff_lt-mul, zero-lt-suc}
 use native.Mathlib.Decide.{dec_lt}
 use native.Mathlib.Omega.{arith}
-use lib.Dec.{eqb}
+use Rattle.std.proofs.Common.{Some}
+use Rattle.std.specs.List.{list_all}
+use Rattle.std.proofs.lemmas.Bool.Decides.{nat_tests}
 use lib.ListN.{length, get_or, length-append, get_or-append}
 use lib.Seq.{get_or-append_seam}
-use borrow.Author.Tests.{lt-ltb, le-ltb, eq-eqb, ne_eqb}
+use borrow.Author.Tests.{lt-ltb, le-ltb, eq-eqb}
 use Rattle.basics.specs.Below.{run_below}
 use Rattle.basics.specs.Bytes.{AreBytes}
 use Rattle.basics.specs.Text.{digits}
-use Rattle.basics.proofs.Below.{all_of, run_more, run_cong}
+use Rattle.basics.proofs.Below.{run_more, run_cong}
 use Rattle.basics.proofs.Bools.{and_both}
 use Rattle.basics.proofs.Bytes.{bytes_tail}
 use Rattle.texts.specs.Letters.{hex_letter, hex_text}
 use Rattle.texts.proofs.Spelling.{hex_text_length}
-use Rattle.script.specs.Hex.{hex_value, is_digit_at, is_hex, byte_of, value_bytes}
+use Rattle.script.specs.Hex.{hex_value, is_digit, is_hex, byte_of, value_bytes}
 use Rattle.script.specs.Numeral.{no_number, with_digit, number_of}
 use Rattle.script.specs.ReadBack.{NumbersReadBack, ValuesReadBack}
 use Rattle.script.proofs.Naming.{named_by, digit_more}
-use Rattle.script.proofs.HexLaws.{numeral_value, small_value}
 
 -- ---- numbers
 
@@ -62,13 +63,9 @@ numbers_read_back n h = digits_back 20 n (omega arith) h
 -- ---- values
 
 -- a digit's value
-letter_back : (d : ℕ) → d < 16 → hex_value (hex_letter d) ≡ d
-unfolding hex_letter
-letter_back d h =
-    elim (dec_lt d 10) [
-      | yes k ↦ rw (lt-ltb d 10 k) (sym (numeral_value (48 + d) (omega arith) (omega arith)) ∙ omega arith)
-      | no k ↦ rw (le-ltb d 10 (omega arith)) (sym (small_value (87 + d) (omega arith) (omega arith)) ∙ omega arith)
-    ]
+letter_back : (d : ℕ) → d < 16 → hex_value (hex_letter d) ≡ Some d
+unfolding hex_letter hex_value
+letter_back d h = grind (arith, nat_tests)
 
 byte_back : (b : ℕ) → b < 256 → byte_of (hex_letter (b / 16)) (hex_letter (b % 16)) ≡ b
 unfolding byte_of
@@ -79,20 +76,21 @@ unfolding value_bytes hex_text
 bytes_back [] h = refl
 bytes_back (b ∷ bytes) h = ap₂ ◌∷◌ (byte_back b (h 0)) (bytes_back bytes (bytes_tail b bytes h))
 
-letter_is_digit : (d : ℕ) → d < 16 → not (eqb (hex_value (hex_letter d)) 16) ≡ true
-letter_is_digit d h = rw (letter_back d h, ne_eqb d 16 (λ e. absurd (omega arith)))
+letter_is_digit : (d : ℕ) → d < 16 → is_digit (hex_letter d) ≡ true
+unfolding is_digit
+letter_is_digit d h = rw (letter_back d h) refl
 
-each_is_digit : (bytes : List ℕ) → AreBytes bytes → (i : ℕ) → i < length (hex_text bytes) → is_digit_at (hex_text bytes) i ≡ true
-unfolding is_digit_at hex_text
-each_is_digit [] h i k = absurd (not-suc-le-zero k)
-each_is_digit (b ∷ bytes) h zero k = let small = h 0 in letter_is_digit (b / 16) (omega arith)
-each_is_digit (b ∷ bytes) h (suc zero) k = letter_is_digit (b % 16) (omega arith)
-each_is_digit (b ∷ bytes) h (suc (suc i)) k = each_is_digit bytes (bytes_tail b bytes h) i (omega arith)
+all_digits : (bytes : List ℕ) → AreBytes bytes → list_all is_digit (hex_text bytes) ≡ true
+unfolding hex_text
+all_digits [] h = refl
+all_digits (b ∷ bytes) h =
+    let small = h 0 in
+    rw (letter_is_digit (b / 16) (omega arith), letter_is_digit (b % 16) (omega arith)) (all_digits bytes (bytes_tail b bytes h))
 
 pub values_read_back : ValuesReadBack
 unfolding is_hex
 values_read_back bytes h =
     let even : length (hex_text bytes) % 2 ≡ 0 = omega (arith, hex_text_length bytes) in (
-      and_both _ _ (eq-eqb (length (hex_text bytes) % 2) 0 even) (all_of (is_digit_at (hex_text bytes)) (length (hex_text bytes)) (each_is_digit bytes h)),
+      and_both _ _ (eq-eqb (length (hex_text bytes) % 2) 0 even) (all_digits bytes h),
       bytes_back bytes h,
     )

@@ -1,112 +1,136 @@
--- Laws of the words of a line: classes of bytes, the first byte of a class from a place on, the start of a word, and the parts that are words.
+-- Laws of the words of a line: the first byte of a class from a place on, the start of a word, and the parts that are words.
 -- Assumes nothing.
-use mathlib.Core.Path.{◌≡◌, sym, ◌∙◌, subst}
-use mathlib.Core.Logic.{◌⊎◌, inl, inr}
-use mathlib.Core.Bool.{true, false}
-use mathlib.Core.List.{List}
-use Prim.Native.Nat.{ℕ, ◌+◌, ◌-◌, ◌<◌, ◌≤◌}
-use native.Mathlib.Numerals.{add-one}
-use native.Mathlib.Omega.{arith}
+use Rattle.std.proofs.Common.{◌≡◌, sym, ◌∙◌, ap, refl, List, [], ℕ, zero, suc, ◌+◌, ◌-◌, ◌≤◌, arith, length, take, drop, length-drop, Some, None, add-one}
 use lib.Dec.{leb}
-use lib.ListN.{length, get_or, take, drop, length-drop}
-use lib.Seq.{length-take-le}
-use borrow.Author.Tests.{eq-eqb, ne_eqb, le-leb, lt-leb, lt-ltb, le-ltb}
+use native.Mathlib.Decide.{dec_lt}
+use lib.ListN.{drop_of_length-le}
+use lib.Seq.{take-nil}
+use borrow.Author.Tests.{le-leb, leb-true}
+use Rattle.std.specs.List.{position_or_len, position}
+use Rattle.std.proofs.lemmas.Bool.Decides.{nat_tests}
+use Rattle.std.proofs.lemmas.List.{get_or-drop}
+use Rattle.std.proofs.lemmas.List.Sums.{position_or_len_is}
+use Rattle.texts.proofs.Putting.{tail_is}
 use Rattle.basics.specs.Below.{least_below, run_below}
-use Rattle.basics.proofs.Bools.{and_both, and_fails_left, and_fails_right}
-use Rattle.basics.proofs.Search.{least_none, least_first, least_skips}
+use Rattle.basics.proofs.Bools.{and_left, and_right}
+use Rattle.basics.proofs.Search.{least_at_most, least_passes, least_fails}
 use Rattle.basics.specs.Bytes.{part}
-use Rattle.script.specs.Blanks.{class_of, of_class, first_of, next_start, word_start, word_of, content_of, blank, solid, comment, line_ends}
-use Rattle.script.specs.Pieces.{held_then, line_end, line_rest, taken}
-
--- ---- classes
-
-module _ (b : ℕ) where
-  pub blank_class : (b ≡ 9) ⊎ ((b ≡ 13) ⊎ (b ≡ 32)) → 0 ≡ class_of b
-  unfolding class_of
-  blank_class (inl e) = rw e
-  blank_class (inr (inl e)) = rw e
-  blank_class (inr (inr e)) = rw e
-
-  pub line_end_class : b ≡ 10 → 3 ≡ class_of b
-  unfolding class_of
-  line_end_class e = rw e
-
-  pub comment_class : b ≡ 35 → 2 ≡ class_of b
-  unfolding class_of
-  comment_class e = rw e
-
-  pub solid_class : ((b ≡ 9) ⊎ ((b ≡ 13) ⊎ (b ≡ 32)) → ⊥) → (b ≡ 10 → ⊥) → (b ≡ 35 → ⊥) → 1 ≡ class_of b
-  unfolding class_of
-  solid_class h k m =
-      rw (
-        ne_eqb b 9 (λ e. h (inl e)),
-        ne_eqb b 13 (λ e. h (inr (inl e))),
-        ne_eqb b 32 (λ e. h (inr (inr e))),
-        ne_eqb b 10 k,
-        ne_eqb b 35 m,
-      )
+use Rattle.script.specs.declared.words.Class.{Class}
+use Rattle.script.specs.declared.words.Class.TheVariants.{Blank, Solid}
+use Rattle.script.specs.Blanks.{is_of, of_class, place_in, first_of, next_start, word_start, word_of}
 
 -- ---- the first byte of a class from a place on
 
-module _ (line : List ℕ) (at class : ℕ) where
-  -- nothing is found before the place
-  pub first_none : least_below (of_class line at class) at ≡ at
-  first_none = least_none (of_class line at class) at (λ j h. and_fails_left (leb at j) _ (lt-leb at j h))
-
-  -- the next byte is of the class, or it is not; r is the class that it was found to have
-  module _ (i r : ℕ) (same : r ≡ class_of (get_or line i 0)) (so_far : least_below (of_class line at class) i ≡ i) where
-    pub first_found : at ≤ i → i < length line → r ≡ class → i ≡ first_of line at class
-    unfolding first_of
-    first_found h k e =
-        sym (least_first (of_class line at class) (length line) i k so_far (and_both (leb at i) _ (le-leb at i h) (eq-eqb _ class (sym same ∙ e))))
-
-    pub first_skips : (r ≡ class → ⊥) → least_below (of_class line at class) (i + 1) ≡ i + 1
-    first_skips other =
-        least_skips (of_class line at class) i so_far (and_fails_right (leb at i) _ (ne_eqb _ class (λ e. other (same ∙ e))))
-
-  -- there is none up to the end
-  pub first_end : (i : ℕ) → least_below (of_class line at class) i ≡ i → i ≡ length line → i ≡ first_of line at class
+module _ (line : List ℕ) (at : ℕ) (class : Class) (within : at ≤ length line) where
+  -- it lies within the line, from the place on
+  pub first_within : (at ≤ first_of line at class) × (first_of line at class ≤ length line)
   unfolding first_of
-  first_end i e q = q ∙ subst (λ (n : ℕ). n ≡ least_below (of_class line at class) n) q (sym e)
+  first_within =
+      let p = of_class line at class in
+      let n = length line in
+      let most = least_at_most p n in (
+        elim (dec_lt (least_below p n) at) [
+          | yes h ↦ (let k = leb-true at (least_below p n) (and_left (leb at (least_below p n)) _ (least_passes p n (omega arith))) in absurd (omega arith))
+          | no h ↦ omega arith
+        ],
+        most,
+      )
+
+  -- and is the first of what is left from there on
+  pub first_is : position_or_len (is_of class) (drop at line) ≡ first_of line at class - at
+  unfolding first_of
+  first_is =
+      let p = of_class line at class in
+      let n = length line in
+      let found = least_below p n in
+      let size = length-drop at line in
+      let bounds = first_within in
+      position_or_len_is (is_of class) (drop at line) (found - at) 0 (omega arith)
+      (λ k h. let f = least_fails p n (at + k) (omega arith) in let g = le-leb at (at + k) (omega arith) in rw (get_or-drop at line k 0) (rw g at f))
+      (λ h. let here : at + (found - at) ≡ found = omega arith in rw (get_or-drop at line (found - at) 0, here) (and_right (leb at found) _ (least_passes p n (omega arith))))
+
+  -- what is left, as a part of the line
+  module _ (rest : List ℕ) (left : rest ≡ take (length line - at) (drop at line)) where
+    pub first_found : (n : ℕ) → position (is_of class) rest ≡ Some n → Some (at + n) ≡ place_in (length line) (first_of line at class)
+    first_found n e =
+        let same = first_is in
+        let bounds = first_within in
+        let size = length-drop at line in
+        let found = rw (left, tail_is line at (length line) refl) at e in
+        grind (arith, nat_tests)
+
+    pub first_missing : position (is_of class) rest ≡ None → place_in (length line) (first_of line at class) ≡ None
+    first_missing e =
+        let same = first_is in
+        let bounds = first_within in
+        let size = length-drop at line in
+        let found = rw (left, tail_is line at (length line) refl) at e in
+        grind (arith, nat_tests)
+
+pub first_most : (line : List ℕ) (at : ℕ) (class : Class) → first_of line at class ≤ length line
+unfolding first_of
+first_most line at class = least_at_most (of_class line at class) (length line)
+
+-- ---- a place in a line
+
+pub place_none : (size at : ℕ) → at ≤ size → place_in size at ≡ None → at ≡ size
+place_none size at h e = grind (arith, nat_tests)
+
+-- ---- where the next word starts
+
+module _ (line : List ℕ) (at : ℕ) where
+  pub next_within : next_start line at ≤ length line
+  unfolding next_start
+  next_within = first_most line (first_of line at Blank) Solid
+
+  pub next_is : (end : ℕ) → end ≡ first_of line at Blank → first_of line end Solid ≡ next_start line at
+  unfolding next_start
+  next_is end e = rw e refl
+
+  -- behind the end of a line nothing is found
+  pub none_behind : (class : Class) → at ≡ length line → first_of line at class ≡ length line
+  none_behind class e = let k = first_within line at class (omega arith) in omega arith
+
+pub next_missing : (line : List ℕ) (at : ℕ) → first_of line at Blank ≡ length line → next_start line at ≡ length line
+next_missing line at e = sym (next_is line at (first_of line at Blank) refl) ∙ none_behind line (first_of line at Blank) Solid e
 
 -- ---- where words start
 
-pub start_first : (line : List ℕ) {at : ℕ} → at ≡ first_of line 0 solid → at ≡ word_start line 0
+pub start_first : (line : List ℕ) → word_start line 0 ≡ first_of line 0 Solid
 unfolding word_start run_below
-start_first line e = e
+start_first line = refl
 
-pub start_next : (line : List ℕ) (n : ℕ) {at end next : ℕ} → at ≡ word_start line n → end ≡ first_of line at blank → next ≡ first_of line end solid
-    → next ≡ word_start line (n + 1)
-unfolding word_start run_below next_start
-start_next line n a b c = rw (add-one, ← a, ← b) c
+pub start_next : (line : List ℕ) (n : ℕ) → word_start line (n + 1) ≡ next_start line (word_start line n)
+unfolding word_start run_below
+start_next line n = rw add-one refl
 
-pub start_there : (line : List ℕ) (i n : ℕ) {at : ℕ} → i ≡ n → at ≡ word_start line i → at ≡ word_start line n
-start_there line i n e q = rw (← e) q
+pub start_within : (line : List ℕ) (n : ℕ) → word_start line n ≤ length line
+unfolding word_start run_below
+start_within line zero = first_most line 0 Solid
+start_within line (suc n) = next_within line (word_start line n)
 
--- ---- the parts that are words, and what stands before a comment
+-- no word starts once one starts at the end
+ended : (line : List ℕ) (i n : ℕ) → i ≤ n → word_start line i ≡ length line → word_start line n ≡ length line
+ended line i zero h e = let same : 0 ≡ i = omega arith in ap (word_start line) same ∙ e
+ended line i (suc n) h e =
+    elim (dec_lt n i) [
+      | yes k ↦ let same : suc n ≡ i = omega arith in ap (word_start line) same ∙ e
+      | no k ↦
+          let so_far = ended line i n (omega arith) e in
+          rw (← add-one, start_next line n) (next_missing line (word_start line n) (none_behind line (word_start line n) Blank so_far))
+    ]
 
-pub word_is : (line : List ℕ) (n : ℕ) {from to : ℕ} → from ≡ word_start line n → to ≡ first_of line from blank → take (to - from) (drop from line) ≡ word_of line n
+pub start_missing : (line : List ℕ) (i n : ℕ) → i ≤ n → word_start line i ≡ length line → place_in (length line) (word_start line n) ≡ None
+start_missing line i n h e = let last = ended line i n h e in grind (arith, nat_tests)
+
+-- ---- the parts that are words
+
+pub word_is : (line : List ℕ) (n from to : ℕ) → from ≡ word_start line n → to ≡ first_of line from Blank → take (to - from) (drop from line) ≡ word_of line n
 unfolding word_of part
-word_is line n a b = rw (← a, ← b)
+word_is line n from to a b = rw (← a, ← b)
 
-pub content_is : (line : List ℕ) {end : ℕ} → end ≡ first_of line 0 comment → take end line ≡ content_of line
-unfolding content_of
-content_is line e = rw e
-
--- ---- what is taken of a piece
-
-pub part_size : (piece : List ℕ) (at end : ℕ) → at ≤ end → end ≤ length piece → length (take (end - at) (drop at piece)) ≡ end - at
-part_size piece at end h k = length-take-le (end - at) (drop at piece) (simp length-drop (omega arith))
-
-pub rest_is : (piece : List ℕ) (at : ℕ) {end : ℕ} → end ≡ first_of piece at line_ends → take (end - at) (drop at piece) ≡ line_rest piece at
-unfolding line_rest line_end part
-rest_is piece at e = rw e
-
-module _ (piece : List ℕ) (at room held : ℕ) {end then n : ℕ} (e : end ≡ first_of piece at line_ends) (k : n ≡ end - at) (h : then ≡ held_then room held n) where
-  pub taken_whole : end < length piece → record { at = end + 1; held = then; whole = true } ≡ taken piece at room held
-  unfolding taken line_end
-  taken_whole m = rw (← e, lt-ltb end (length piece) m, h, k)
-
-  pub taken_part : length piece ≤ end → record { at = end; held = then; whole = false } ≡ taken piece at room held
-  unfolding taken line_end
-  taken_part m = rw (← e, le-ltb end (length piece) m, h, k)
+pub no_word : (line : List ℕ) (n : ℕ) → place_in (length line) (word_start line n) ≡ None → [] ≡ word_of line n
+unfolding word_of part
+no_word line n e =
+    let last = place_none (length line) (word_start line n) (start_within line n) e in
+    rw (last, drop_of_length-le line {i = length line} (omega arith)) (sym (take-nil _))

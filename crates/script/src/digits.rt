@@ -1,28 +1,11 @@
 // Hexadecimal digits.
-ghost use Rattle.std.specs.Prelude.{◌≡◌, ◌≤◌};
+ghost use Rattle.std.specs.Prelude.{◌≡◌};
 ghost use Rattle.script.specs.Hex.{hex_value};
 
-// The value of a hexadecimal digit of either case; 16 for any other byte.
-pub fn hex_value(b: u8) -> u8
-    ensures { (result ≡ hex_value b) × (result ≤ 16) }
+// The value of a hexadecimal digit of either case; none for any other byte.
+#[tactic(auto, unfolding(crate::specs::Hex::hex_value))]
+pub fn hex_value(b: u8) -> Option<u8>
+    ensures { result ≡ hex_value b }
 {
-    if b < 48 {
-        return 16;
-    }
-    if b < 58 {
-        return b - 48;
-    }
-    if b < 65 {
-        return 16;
-    }
-    if b < 71 {
-        return b - 55;
-    }
-    if b < 97 {
-        return 16;
-    }
-    if b < 103 {
-        return b - 87;
-    }
-    16
+    char::from(b).to_digit(16).map(|d| d as u8)
 }

@@ -1,34 +1,24 @@
 // Numbers in decimal.
-ghost use Rattle.std.specs.Prelude.{◌≡◌, ◌≤◌};
-ghost use Rattle.script.specs.Numeral.{no_number, with_digit, number_of};
-
-// What a word that names no number of 32 bits counts as.
-pub const NO_NUMBER: u64 = 4294967296;
+ghost use Rattle.std.specs.Prelude.{◌≡◌};
+ghost use Rattle.script.specs.Numeral.{named, with_digit, number_of};
 
 // A number with one digit more behind it.
-fn with_digit(n: u64, b: u8) -> u64
-    requires { n ≤ no_number }
-    ensures { (result ≡ with_digit n b) × (result ≤ no_number) }
+#[tactic(auto, unfolding(crate::specs::Numeral::with_digit))]
+fn with_digit(n: u32, b: u8) -> Option<u32>
+    ensures { named result ≡ with_digit n b }
 {
-    if b < 48 {
-        return NO_NUMBER;
-    }
-    if b > 57 {
-        return NO_NUMBER;
-    }
-    let more = 10 * n + (b - 48) as u64;
-    if more < NO_NUMBER { more } else { NO_NUMBER }
+    let digit = char::from(b).to_digit(10)?;
+    n.checked_mul(10)?.checked_add(digit)
 }
 
 // The number of 32 bits that a word names.
-pub fn number_of(word: &[u8]) -> u64
-    ensures { (result ≡ number_of word.now) × (result ≤ no_number) }
+#[tactic(auto, using(crate::proofs::Naming::named_none, crate::proofs::Naming::named_more, crate::proofs::Naming::named_all, crate::proofs::Naming::none_named))]
+pub fn number_of(word: &[u8]) -> Option<u32>
+    ensures { named result ≡ number_of word.now }
 {
-    let mut n: u64 = 0;
-    let mut i = 0;
-    while i < word.len() {
-        n = with_digit(n, word[i]);
-        i += 1;
+    let mut n = 0;
+    for b in word {
+        n = with_digit(n, *b)?;
     }
-    n
+    Some(n)
 }

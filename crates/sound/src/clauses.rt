@@ -1,33 +1,31 @@
 // What soundness asks of a place, clause by clause.
 ghost use Rattle.std.specs.Prelude.{◌≡◌};
 ghost use Rattle.basics.specs.Below.{all_below};
-ghost use Rattle.rules.specs.Sizes.{Within};
 ghost use Rattle.rules.specs.Books.{place_at, of_places};
 ghost use Rattle.rules.specs.Sound.{is_clear, held_sound, commit_sound, place_sound};
 
 use rules::statuses::{COMMITTED, FREE, LIVE};
-use rules::{Place, Size};
+use rules::{Controller, Limits, Place};
 use sound_cells::cells;
 
 // Zero in all but the turn.
 #[tactic(auto, unfolding(rules::specs::Sound::is_clear))]
-fn is_place_clear(p: Place, z: Size) -> bool
-    requires { Within z }
-    ensures { result ≡ is_clear z p }
+fn is_place_clear(p: Place, z: Limits) -> bool
+    ensures { result ≡ is_clear z.size p }
 {
     p.begin == 0 && p.commit == 0 && cells::are_cells_clear(p, z)
 }
 
 // A held place has a begin record, from 1 to the record count, and its reads are sound.
 #[tactic(auto, unfolding(rules::specs::Sound::held_sound))]
-fn is_held_sound(p: Place, records: u16, z: Size) -> bool
-    requires { Within z }
-    ensures { result ≡ held_sound z records p }
+fn is_held_sound(p: Place, records: u16, z: Limits) -> bool
+    ensures { result ≡ held_sound z.size records p }
 {
     1 <= p.begin && p.begin <= records && cells::are_reads_sound(p, records, z)
 }
 
 // A committed place has a commit record, from its begin to the record count.
+#[tactic(auto, unfolding(rules::specs::Sound::commit_sound))]
 fn is_commit_sound(p: Place, records: u16) -> bool
     ensures { result ≡ commit_sound records p }
 {
@@ -35,34 +33,27 @@ fn is_commit_sound(p: Place, records: u16) -> bool
 }
 
 // A place by its status: free, live or committed; any other status is unsound.
-fn is_place_sound(p: Place, records: u16, z: Size) -> bool
-    requires { Within z }
-    ensures { result ≡ place_sound z records p }
+#[tactic(auto, unfolding(rules::specs::Sound::place_sound))]
+fn is_place_sound(p: Place, records: u16, z: Limits) -> bool
+    ensures { result ≡ place_sound z.size records p }
 {
-    if p.status == FREE {
-        return is_place_clear(p, z);
+    match p.status {
+        FREE => is_place_clear(p, z),
+        LIVE => is_held_sound(p, records, z) && p.commit == 0,
+        COMMITTED => is_held_sound(p, records, z) && is_commit_sound(p, records),
+        _ => false,
     }
-    if p.status == LIVE {
-        return is_held_sound(p, records, z) && p.commit == 0;
-    }
-    if p.status == COMMITTED {
-        return is_held_sound(p, records, z) && is_commit_sound(p, records);
-    }
-    false
 }
 
 // Each place by itself.
-#[tactic(auto, using(basics::proofs::Tested::answer_passes))]
-pub fn each_sound(places: [Place; 32], records: u16, z: Size) -> bool
-    requires { Within z }
-    ensures { result ≡ all_below (λ i. place_sound z records (place_at (of_places places) i)) z.places }
+#[tactic(auto, using(basics::proofs::Below::all_none, basics::proofs::Below::all_passes))]
+pub fn each_sound(at: Controller) -> bool
+    ensures { result ≡ all_below (λ i. place_sound at.limits.size at.records (place_at (of_places at.places) i)) at.limits.size.places }
 {
-    let mut i = 0;
-    while i < z.places {
-        if !is_place_sound(places[i], records, z) {
+    for i in 0..at.limits.size.places {
+        if !is_place_sound(at.places[i], at.records, at.limits) {
             return false;
         }
-        i += 1;
     }
     true
 }

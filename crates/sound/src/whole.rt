@@ -1,29 +1,22 @@
 // All clauses of soundness together.
 ghost use Rattle.std.specs.Prelude.{◌≡◌};
-ghost use Rattle.rules.specs.Sizes.{Within};
-ghost use Rattle.rules.specs.Books.{books_of};
+ghost use Rattle.rules.specs.Books.{books_at};
 ghost use Rattle.rules.specs.Sound.{sound};
 
 use crate::clauses;
+use rules::Controller;
 use rules::sizes::MOST_RECORDS;
-use rules::{Place, Size};
 use sound_keys::apart;
 use survey::columns;
 
 // Whether the books of that record count and those places are sound.
-pub fn are_sound(places: [Place; 32], records: u16, z: Size) -> bool
-    requires { Within z }
-    ensures { result ≡ sound z (books_of records places) }
+pub fn are_sound(at: Controller) -> bool
+    ensures { result ≡ sound at.limits.size (books_at at) }
 {
-    let seen = columns::columns_of(places, z);
-    if MOST_RECORDS < records as usize + seen.live as usize {
-        return false;
-    }
-    let held = seen.held;
-    let begins = seen.begins;
-    let committed = seen.committed;
-    let commits = seen.commits;
-    clauses::each_sound(places, records, z)
-        && apart::are_apart(held, begins, z.places)
-        && apart::are_apart(committed, commits, z.places)
+    let seen = columns::columns_of(at.places, at.limits);
+    let places = at.limits.size.places;
+    at.records as usize + seen.live as usize <= MOST_RECORDS
+        && clauses::each_sound(at)
+        && apart::are_apart(seen.held, seen.begins, places)
+        && apart::are_apart(seen.committed, seen.commits, places)
 }

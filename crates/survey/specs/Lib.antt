@@ -1,1 +1,2 @@
 pub mod Columned
+pub mod Found

@@ -12,10 +12,11 @@ use lib.ListN.{length, take, drop, length-append}
 use lib.Seq.{take_at, length-take-le}
 use borrow.Author.Tests.{le-leb, lt-ltb, le-ltb}
 use Rattle.basics.specs.Bytes.{splice}
-use Rattle.basics.specs.Text.{digits, decimal}
+use Rattle.basics.specs.Text.{text, digits, decimal}
 use Rattle.basics.proofs.Bytes.{splice_length}
 use Rattle.texts.specs.Placed.{with_text, after_text}
-use Rattle.texts.specs.Said.{placed, joined}
+use Rattle.rules.specs.Report.{refused_line}
+use Rattle.texts.specs.Said.{placed, joined, refused_told}
 
 -- the pieces of two lists
 pub joined_append : (first rest : List (List ℕ)) → joined (first ++ rest) ≡ joined first ++ joined rest
@@ -88,3 +89,18 @@ same_digits (suc k) (suc m) n h j =
 pub decimal_is : (n : ℕ) → n < 100000 → digits 20 n ≡ decimal n
 unfolding decimal
 decimal_is n h = same_digits 19 4 n (omega arith) (omega arith)
+
+-- ---- the line of a refusal
+
+refused_is : (number : ℕ) → joined (refused_told number) ≡ refused_line number
+unfolding joined refused_told refused_line text
+refused_is number = refl
+
+refused_short : (number : ℕ) → length (refused_line number) ≤ 16
+unfolding refused_line text
+refused_short number = simp length-append (omega (arith, decimal_few number))
+
+pub refused_fits : (out : List ℕ) (number : ℕ) (last : List ℕ) (end : ℕ) → (last, end) ≡ placed out 0 (refused_told number) → 16 ≤ length out → take end last ≡ refused_line number
+refused_fits out number last end e room =
+    let same = refused_is number in
+    all_fit out (refused_told number) e (rw same (omega (arith, refused_short number))) ∙ same

@@ -26,10 +26,6 @@ hex_text_length (x ∷ xs) = let rest = hex_text_length xs in omega arith
 
 -- ---- digits spelled out, two a byte
 
-pub spelled_none : (out bytes : List ℕ) → take (2 * 0) out ≡ hex_text (take 0 bytes)
-unfolding hex_text
-spelled_none out bytes = refl
-
 module _ (out bytes : List ℕ) (i : ℕ) (e : take (2 * i) out ≡ hex_text (take i bytes)) where
   pub spelled_more : {high low : ℕ} → i < length bytes → length out ≡ 2 * length bytes → high ≡ hex_letter (get_or bytes i 0 / 16) → low ≡ hex_letter (get_or bytes i 0 % 16)
       → take (2 * (i + 1)) (set (set out (2 * i) high) (2 * i + 1) low) ≡ hex_text (take (i + 1) bytes)

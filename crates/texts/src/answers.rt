@@ -1,117 +1,116 @@
 // The lines that answers are printed as, each put together in a lent buffer, piece by piece.
-ghost use Rattle.std.specs.Prelude.{◌≡◌, ◌*◌, ◌≤◌, length, take};
-ghost use Rattle.rules.specs.Sizes.{cell_bytes};
-ghost use Rattle.texts.specs.Said.{placed, then_number, then_value, number_line, handle_line, value_line, listed, order_line, celled, table_line, unknown_line};
+ghost use Rattle.std.specs.Prelude.{◌/◌, length};
+ghost use Rattle.texts.specs.Said.{Puts, then_number, then_value, number_line, handle_line, value_line, listed, order_line, celled, table_line, unknown_line};
 
-use crate::buffer;
+use crate::buffer::Text;
 use rules::{numbers, sizes};
 
-// A number after a space, behind what is put already.
-fn then_number(out: &mut [u8], at: usize, n: u64) -> usize
-    ensures { (out.new, result) ≡ placed out.old at (then_number n) }
+// A number after a space.
+#[tactic(auto, unfolding(crate::specs::Said::then_number, crate::specs::Said::placed, basics::specs::Text::text))]
+fn then_number(out: &mut Text, n: u64)
+    ensures { Puts out.old out.new (then_number n) }
 {
-    let next = buffer::put(out, at, b" ");
-    buffer::put_number(out, next, n)
+    out.put(b" ");
+    out.put_number(n);
 }
 
-// A value after a space, behind what is put already.
-fn then_value(out: &mut [u8], at: usize, bytes: &[u8]) -> usize
-    ensures { (out.new, result) ≡ placed out.old at (then_value bytes.now) }
+// A value after a space.
+#[tactic(auto, unfolding(crate::specs::Said::then_value, crate::specs::Said::placed, basics::specs::Text::text))]
+fn then_value(out: &mut Text, bytes: &[u8])
+    ensures { Puts out.old out.new (then_value bytes.now) }
 {
-    let next = buffer::put(out, at, b" ");
-    buffer::put_hex(out, next, bytes)
+    out.put(b" ");
+    out.put_hex(bytes);
 }
 
 // A call and the number that it gave back.
-pub fn number(out: &mut [u8], name: &[u8], number: u8) -> usize
-    ensures { (out.new, result) ≡ placed out.old 0 (number_line name.now number) }
+// A number: a program prints document 01's, and whether it saved.
+#[tactic(auto, unfolding(crate::specs::Said::number_line, crate::specs::Said::placed))]
+pub fn number(out: &mut Text, name: &[u8], number: u8)
+    ensures { Puts out.old out.new (number_line name.now number) }
 {
-    let end = buffer::put(out, 0, name);
-    then_number(out, end, number as u64)
+    out.put(name);
+    then_number(out, u64::from(number));
 }
 
-// A call that answers a handle if it is granted.
-pub fn handle(out: &mut [u8], name: &[u8], number: u8, handle: u32) -> usize
-    ensures { (out.new, result) ≡ placed out.old 0 (handle_line name.now number handle) }
+// A call that answers a handle if it is granted, else the number of its refusal.
+// A number, here and below: a call by value is answered in document 01's numbers (`machine::call::stepped`).
+#[tactic(auto, using(crate::proofs::Saying::placed_append), unfolding(crate::specs::Said::handle_line))]
+pub fn handle(out: &mut Text, name: &[u8], given: Result<u32, u8>)
+    ensures { Puts out.old out.new (handle_line name.now given) }
 {
-    let end = self::number(out, name, number);
-    if number != numbers::GRANTED {
-        return end;
+    match given {
+        Ok(handle) => {
+            number(out, name, numbers::GRANTED);
+            then_number(out, u64::from(handle));
+        }
+        Err(refused) => number(out, name, refused),
     }
-    then_number(out, end, handle as u64)
 }
 
-// A call that shows a value if it is granted.
-pub fn value(out: &mut [u8], name: &[u8], number: u8, shown: &[u8]) -> usize
-    ensures { (out.new, result) ≡ placed out.old 0 (value_line name.now number shown.now) }
+// A call that shows a value if it is granted, else the number of its refusal.
+#[tactic(auto, using(crate::proofs::Saying::placed_append), unfolding(crate::specs::Said::value_line))]
+pub fn value(out: &mut Text, name: &[u8], shown: Result<&[u8], u8>)
+    ensures { Puts out.old out.new (value_line name.now shown.entry) }
 {
-    let end = self::number(out, name, number);
-    if number != numbers::GRANTED {
-        return end;
+    match shown {
+        Ok(value) => {
+            number(out, name, numbers::GRANTED);
+            then_value(out, value);
+        }
+        Err(refused) => number(out, name, refused),
     }
-    then_value(out, end, shown)
 }
 
-// Numbers behind what is put already, each after a space.
-fn list(out: &mut [u8], at: usize, numbers: &[u16]) -> usize
-    ensures { (out.new, result) ≡ placed out.old at (listed numbers.now (length numbers.now)) }
+// Numbers, each after a space.
+#[tactic(auto, using(crate::proofs::Saying::placed_append, crate::proofs::Saying::listed_none, crate::proofs::Saying::listed_more), unfolding(crate::specs::Said::placed))]
+fn list(out: &mut Text, numbers: &[u16])
+    ensures { Puts out.old out.new (listed numbers.now (length numbers.now)) }
 {
-    let mut end = at;
-    let mut i = 0;
-    while i < numbers.len() {
-        end = then_number(out, end, numbers[i] as u64);
-        i += 1;
+    for n in numbers {
+        then_number(out, u64::from(*n));
     }
-    end
 }
 
-// The first numbers; all, where there are not so many.
-fn first(numbers: &[u16], count: usize) -> &[u16]
-    ensures { result.now ≡ take count numbers.now }
+// A call that answers an order if it is granted, the begin records, else the number of its refusal.
+#[tactic(auto, using(crate::proofs::Saying::placed_append), unfolding(crate::specs::Said::order_line))]
+pub fn order(out: &mut Text, name: &[u8], given: Result<&[u16], u8>)
+    ensures { Puts out.old out.new (order_line name.now given.entry) }
 {
-    if numbers.len() < count {
-        return numbers;
+    match given {
+        Ok(order) => {
+            number(out, name, numbers::GRANTED);
+            list(out, order);
+        }
+        Err(refused) => number(out, name, refused),
     }
-    &numbers[..count]
 }
 
-// A call that answers an order: as many begin records as it counts, none if it is refused.
-pub fn order(out: &mut [u8], name: &[u8], number: u8, numbers: &[u16], count: usize) -> usize
-    ensures { (out.new, result) ≡ placed out.old 0 (order_line name.now number (take count numbers.now)) }
+// The values of a table's cells, each after a space.
+#[tactic(auto, using(crate::proofs::Saying::placed_append, crate::proofs::Saying::celled_none, crate::proofs::Saying::celled_more), unfolding(crate::specs::Said::placed, basics::specs::Bytes::part))]
+fn cells(out: &mut Text, table: &[u8])
+    ensures { Puts out.old out.new (celled table.now (length table.now / 8)) }
 {
-    let end = self::number(out, name, number);
-    list(out, end, first(numbers, count))
-}
-
-// The values of cells behind what is put already, each after a space.
-fn cells(out: &mut [u8], at: usize, table: &[u8], count: usize) -> usize
-    requires { cell_bytes * count ≤ length table.now }
-    ensures { (out.new, result) ≡ placed out.old at (celled table.now count) }
-{
-    let mut end = at;
-    let mut i = 0;
-    while i < count {
-        let from = sizes::CELL_BYTES * i;
-        let to = from + sizes::CELL_BYTES;
-        end = then_value(out, end, &table[from..to]);
-        i += 1;
+    for cell in table.chunks_exact(sizes::CELL_BYTES) {
+        then_value(out, cell);
     }
-    end
 }
 
 // The table: each of its cells' values.
-pub fn table(out: &mut [u8], table: &[u8]) -> usize
-    ensures { (out.new, result) ≡ placed out.old 0 (table_line table.now) }
+#[tactic(auto, unfolding(crate::specs::Said::table_line, crate::specs::Said::placed, basics::specs::Text::text))]
+pub fn table(out: &mut Text, table: &[u8])
+    ensures { Puts out.old out.new (table_line table.now) }
 {
-    let end = buffer::put(out, 0, b"table");
-    cells(out, end, table, table.len() / sizes::CELL_BYTES)
+    out.put(b"table");
+    cells(out, table);
 }
 
 // A line of a script that is none of the calls, by its number.
-pub fn unknown(out: &mut [u8], line: u64) -> usize
-    ensures { (out.new, result) ≡ placed out.old 0 (unknown_line line) }
+#[tactic(auto, using(crate::proofs::Saying::placed_append), unfolding(crate::specs::Said::unknown_line, crate::specs::Said::placed, basics::specs::Text::text))]
+pub fn unknown(out: &mut Text, line: u64)
+    ensures { Puts out.old out.new (unknown_line line) }
 {
-    let named = buffer::put(out, 0, b"line");
-    let end = then_number(out, named, line);
-    buffer::put(out, end, b" ?")
+    out.put(b"line");
+    then_number(out, line);
+    out.put(b" ?");
 }

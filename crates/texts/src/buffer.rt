@@ -1,80 +1,84 @@
 // Text put together in a lent buffer, piece by piece. A piece that has no room is left out whole.
-ghost use Rattle.std.specs.Prelude.{◌≡◌, length, take};
+ghost use Rattle.std.specs.Prelude.{◌≡◌, [], ◌∷◌, take};
 ghost use Rattle.basics.specs.Text.{digits, decimal};
 ghost use Rattle.texts.specs.Letters.{hex_text};
-ghost use Rattle.texts.specs.Placed.{after_text, with_text};
+ghost use Rattle.texts.specs.Said.{Puts};
 
-use crate::{hex, numbers};
+use crate::hex;
 
-// Bytes into a buffer of just their number.
-fn copy(out: &mut [u8], bytes: &[u8])
-    requires { length out.old ≡ length bytes.now }
-    ensures { out.new ≡ bytes.now }
-{
-    let mut i = 0;
-    while i < bytes.len() {
-        out[i] = bytes[i];
-        i += 1;
+// The buffer, and the place after what is put already.
+#[derive(Drop)]
+pub struct Text<'a> {
+    pub out: &'a mut [u8],
+    pub at: usize,
+}
+
+impl<'a> Text<'a> {
+    // Nothing is put yet.
+    pub fn new(out: &'a mut [u8]) -> Text<'a>
+        ensures same { result.out.ghost_name ≡ out.entry.ghost_name }
+        ensures bytes { result.out.now ≡ out.old }
+        ensures empty { result.at ≡ 0 }
+    {
+        Text { out, at: 0 }
+    }
+
+    // What is put.
+    pub fn so_far(&self) -> &[u8]
+        ensures { result.now ≡ take self.now.at self.now.out.now }
+    {
+        front(self.out, self.at)
+    }
+
+    // Bytes.
+    #[tactic(auto, unfolding(crate::specs::Said::placed, crate::specs::Placed::with_text, crate::specs::Placed::after_text, basics::specs::Bytes::splice))]
+    pub fn put(&mut self, bytes: &[u8])
+        ensures { Puts self.old self.new (bytes.now ∷ []) }
+    {
+        let at = self.at;
+        if self.out.len() < at || self.out.len() - at < bytes.len() {
+            return;
+        }
+        let end = at + bytes.len();
+        self.out[at..end].copy_from_slice(bytes);
+        self.at = end;
+    }
+
+    // A number in decimal.
+    #[tactic(auto, using(crate::proofs::Counting::digits_are))]
+    pub fn put_number(&mut self, n: u64)
+        ensures { Puts self.old self.new (digits 20 n ∷ []) }
+    {
+        let mut spelled = itoa::Buffer::new();
+        self.put(spelled.format(n).as_bytes());
+    }
+
+    // A number of 16 bits in decimal: five digits at most.
+    #[tactic(auto, using(crate::proofs::Fitting::decimal_is))]
+    pub fn put_decimal(&mut self, n: u16)
+        ensures { Puts self.old self.new (decimal n ∷ []) }
+    {
+        self.put_number(u64::from(n));
+    }
+
+    // Bytes as hexadecimal digits.
+    #[tactic(auto, using(crate::proofs::Spelling::hex_text_length), unfolding(crate::specs::Said::placed, crate::specs::Placed::with_text, crate::specs::Placed::after_text, basics::specs::Bytes::splice))]
+    pub fn put_hex(&mut self, bytes: &[u8])
+        ensures { Puts self.old self.new (hex_text bytes.now ∷ []) }
+    {
+        let at = self.at;
+        if self.out.len() < at || (self.out.len() - at) / 2 < bytes.len() {
+            return;
+        }
+        let end = at + 2 * bytes.len();
+        hex::spell(&mut self.out[at..end], bytes);
+        self.at = end;
     }
 }
 
-// Bytes into the buffer from a place on, and the place after them.
-pub fn put(out: &mut [u8], at: usize, bytes: &[u8]) -> usize
-    ensures next { result ≡ after_text (length out.old) at (length bytes.now) }
-    ensures bytes { out.new ≡ with_text out.old at bytes.now }
+// The first elements; all, where there are not so many.
+pub fn front<T>(items: &[T], n: usize) -> &[T]
+    ensures { result.now ≡ take n items.now }
 {
-    if out.len() < at {
-        return at;
-    }
-    if out.len() - at < bytes.len() {
-        return at;
-    }
-    let end = at + bytes.len();
-    copy(&mut out[at..end], bytes);
-    end
-}
-
-// A number in decimal.
-pub fn put_number(out: &mut [u8], at: usize, n: u64) -> usize
-    ensures next { result ≡ after_text (length out.old) at (length (digits 20 n)) }
-    ensures bytes { out.new ≡ with_text out.old at (digits 20 n) }
-{
-    let spelled = numbers::decimal(n);
-    let text = spelled.text;
-    let from = spelled.from;
-    put(out, at, &text[from..])
-}
-
-// A number of 16 bits in decimal: five digits at most.
-pub fn put_decimal(out: &mut [u8], at: usize, n: u16) -> usize
-    ensures next { result ≡ after_text (length out.old) at (length (decimal n)) }
-    ensures bytes { out.new ≡ with_text out.old at (decimal n) }
-{
-    put_number(out, at, n as u64)
-}
-
-// Bytes as hexadecimal digits.
-pub fn put_hex(out: &mut [u8], at: usize, bytes: &[u8]) -> usize
-    ensures next { result ≡ after_text (length out.old) at (length (hex_text bytes.now)) }
-    ensures bytes { out.new ≡ with_text out.old at (hex_text bytes.now) }
-{
-    if out.len() < at {
-        return at;
-    }
-    if (out.len() - at) / 2 < bytes.len() {
-        return at;
-    }
-    let end = at + 2 * bytes.len();
-    hex::spell(&mut out[at..end], bytes);
-    end
-}
-
-// The first bytes of a buffer; all, where there are not so many.
-pub fn front(bytes: &[u8], n: usize) -> &[u8]
-    ensures { result.now ≡ take n bytes.now }
-{
-    if bytes.len() < n {
-        return bytes;
-    }
-    &bytes[..n]
+    &items[..n.min(items.len())]
 }

@@ -4,5 +4,4 @@
 pub mod answers;
 pub mod buffer;
 pub mod hex;
-pub mod numbers;
 pub mod refusal;

@@ -25,7 +25,8 @@ use Rattle.rules.proofs.Runs.Running.{Kept, kept_new, kept_after}
 use Rattle.rules.proofs.Runs.Told.{told_right}
 use Rattle.rules.proofs.Calls.Unlent.{unlent}
 use Rattle.machine.specs.declared.books.Answer.{Answer}
-use Rattle.machine.specs.View.{view, answer_of}
+use Rattle.machine.specs.declared.books.Told.{Told}
+use Rattle.machine.specs.View.{view, in_numbers, answer_of}
 use Rattle.machine.specs.Promises.{order_outcome, close_outcome, LeavesLog, LeavesBuffer}
 use Rattle.machine.specs.Statements.{machine_of}
 use Rattle.machine.specs.Called.{call_of, lent_to}
@@ -140,7 +141,7 @@ module _ (k : Known) (follows : Follows k) where
           }
 
   -- what a call leaves of all that is lent, by its outcome on the machine
-  module _ (c : Call) (r : Answer) (table drafts log numbers : List ℕ)
+  module _ (c : Call) (r : Told) (table drafts log numbers : List ℕ)
       (left : Left held.books held.table held.drafts held.log held.numbers c r table drafts log numbers) where
     pub answer_left : r ≡ answer_of (outcome yard c m)
     answer_left = left.0 ∙ ap answer_of (lent_same c)
@@ -171,17 +172,17 @@ module _ (k : Known) (follows : Follows k) where
         (ap (λ a. a.number) answer_left) (ap (λ a. a.answer) answer_left) state_left log_left length_left
 
   -- each call leaves it so
-  abbrev All : Call → Answer → List ℕ → List ℕ → List ℕ → List ℕ → Type 0
+  abbrev All : Call → Told → List ℕ → List ℕ → List ℕ → List ℕ → Type 0
   All = Left held.books held.table held.drafts held.log held.numbers
 
-  pub order_all : (h : ℕ) {r : Answer} {numbers : List ℕ} → LeavesBuffer held.numbers (order_outcome held.books h held.numbers) r numbers
-      → All (Order h) r held.table held.drafts held.log numbers
-  order_all h left = order_left held.books held.table held.drafts held.log held.numbers h left
+  pub order_all : (h : ℕ) (r : Answer) {numbers : List ℕ} → LeavesBuffer held.numbers (order_outcome held.books h held.numbers) r numbers
+      → All (Order h) (in_numbers r) held.table held.drafts held.log numbers
+  order_all h r left = order_left held.books held.table held.drafts held.log held.numbers h left
 
-  pub close_all : {r : Answer} {log : List ℕ} → LeavesLog held.books.records held.log (close_outcome held.books held.log) r log
-      → All Close r held.table held.drafts log held.numbers
+  pub close_all : (r : Answer) {log : List ℕ} → LeavesLog held.books.records held.log (close_outcome held.books held.log) r log
+      → All Close (in_numbers r) held.table held.drafts log held.numbers
   unfolding issued
-  close_all left =
+  close_all r left =
       neither_left held.books held.table held.drafts held.log held.numbers Close refl (unlent.of_close yard (length held.log) _ m.state) left
 
   -- so does every call of the machine but show, which gives no number back
@@ -190,18 +191,18 @@ module _ (k : Known) (follows : Follows k) where
   unfolding issued open_rule
   called_all (open_called {b} e) other =
       open_left held.books held.table held.drafts held.log held.numbers (ap (λ x. record { number = granted; answer = 0; books = x }) e)
-  called_all (begin_called left) other =
+  called_all (begin_called r left) other =
       neither_left held.books held.table held.drafts held.log held.numbers Begin refl (unlent.of_begin yard (length held.log) m.state) left
-  called_all (write_called {h} {c} {value} left) other =
+  called_all (write_called {h} {c} {value} r left) other =
       write_left held.books held.table held.drafts held.log held.numbers h c value left
-  called_all (read_called {h} {c} left) other = read_left held.books held.table held.drafts held.log held.numbers h c left
+  called_all (read_called {h} {c} r left) other = read_left held.books held.table held.drafts held.log held.numbers h c left
   called_all show_called other = absurd (true≢false other)
-  called_all (commit_called {h} left) other = commit_left held.books held.table held.drafts held.log held.numbers h left
-  called_all (give_up_called {h} left) other =
+  called_all (commit_called {h} r left) other = commit_left held.books held.table held.drafts held.log held.numbers h left
+  called_all (give_up_called {h} r left) other =
       neither_left held.books held.table held.drafts held.log held.numbers (GiveUp h) refl (unlent.of_give_up yard (length held.log) m.state h) left
-  called_all (post_called {c} {value} left) other = post_left held.books held.table held.drafts held.log held.numbers c value left
-  called_all (order_called {h} left) other = order_all h left
-  called_all (close_called left) other = close_all left
+  called_all (post_called {c} {value} r left) other = post_left held.books held.table held.drafts held.log held.numbers c value left
+  called_all (order_called {h} r left) other = order_all h r left
+  called_all (close_called r left) other = close_all r left
   called_all (stepped_called call value left) other = left
 
   -- the number that it gives back is that of its outcome
@@ -218,15 +219,15 @@ module _ (k : Known) (follows : Follows k) where
       → ShownBehind c number after shown → Follows (known_then k c number answer shown after)
   unfolding told
   called_then (open_called e) = all_then (open_called e) refl
-  called_then (begin_called left) = all_then (begin_called left) refl
-  called_then (write_called left) = all_then (write_called left) refl
-  called_then (read_called left) = all_then (read_called left) refl
+  called_then (begin_called r left) = all_then (begin_called r left) refl
+  called_then (write_called r left) = all_then (write_called r left) refl
+  called_then (read_called r left) = all_then (read_called r left) refl
   called_then show_called = λ shown bytes behind. follows
-  called_then (commit_called left) = all_then (commit_called left) refl
-  called_then (give_up_called left) = all_then (give_up_called left) refl
-  called_then (post_called left) = all_then (post_called left) refl
-  called_then (order_called left) = all_then (order_called left) refl
-  called_then (close_called left) = all_then (close_called left) refl
+  called_then (commit_called r left) = all_then (commit_called r left) refl
+  called_then (give_up_called r left) = all_then (give_up_called r left) refl
+  called_then (post_called r left) = all_then (post_called r left) refl
+  called_then (order_called r left) = all_then (order_called r left) refl
+  called_then (close_called r left) = all_then (close_called r left) refl
   called_then (stepped_called call value left) = λ shown bytes behind. left_then (call_of call value) _ _ _ _ _ left bytes shown behind
 
 -- ---- a run

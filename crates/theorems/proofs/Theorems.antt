@@ -9,12 +9,13 @@ use lib.ListN.{length, take, length-append}
 use lib.Dec.{leb}
 use native.Mathlib.Omega.{arith}
 use borrow.Author.Tests.{le-leb, eq-eqb}
+use Rattle.std.specs.Prelude.{Ok}
 use Rattle.basics.specs.Bytes.{part}
 use Rattle.basics.proofs.Bools.{cond_passes}
 use Rattle.basics.proofs.Bytes.{zeros_are_bytes}
 use Rattle.rules.specs.declared.Record.{Record}
 use Rattle.rules.specs.Sizes.{yard, order_numbers, record_bytes}
-use Rattle.rules.specs.Numbers.{granted, lent, first_reason}
+use Rattle.rules.specs.Numbers.{granted, lent}
 use Rattle.rules.specs.Daylog.{decode, commit_total, trailer, standing, records_in, bytes_at, day_of}
 use Rattle.rules.specs.State.{Outcome, log_after, buffer_after}
 use Rattle.rules.specs.Calls.{Order, Close}
@@ -31,9 +32,9 @@ use Rattle.rules.proofs.Runs.Told.{stands_right}
 use Rattle.rules.proofs.Runs.OfRuns.{orders_given, conflict_met}
 use Rattle.rules.proofs.History.LocalOpacity.{permissive_kept}
 use Rattle.log_layout.specs.Walked.{layout_number}
-use Rattle.log_back.specs.Course.{entry_read}
+use Rattle.log_back.specs.Course.{entry_read, is_there}
 use Rattle.machine.specs.declared.books.Answer.{Answer}
-use Rattle.machine.specs.View.{view}
+use Rattle.machine.specs.View.{view, in_numbers}
 use Rattle.machine.specs.Promises.{order_outcome, close_outcome, LeavesLog, LeavesBuffer}
 use Rattle.checker.specs.Desk.{checked_pairs}
 use Rattle.theorems.specs.Calling.{as_it_stands, with_log, close_called, Known, Lends}
@@ -80,8 +81,8 @@ module _ (k : Known) (follows : Follows k) where
 
   -- what the reader gives of one of its records
   read_back : (newer earlier : List Record) (e : Record) → k.day ≡ newer ++ (e ∷ earlier)
-      → entry_read yard (as_it_stands k.held) (length earlier + 1) ≡ record { number = granted; found = e }
-  unfolding entry_read first_reason
+      → entry_read yard (as_it_stands k.held) (length earlier + 1) ≡ Ok e
+  unfolding entry_read is_there
   read_back newer earlier e q =
       let back = stands_right yard _ _ follows.kept.mirror follows.kept.valued.proper in
       let log = standing k.day in
@@ -103,23 +104,23 @@ module _ (k : Known) (follows : Follows k) where
         read_one = λ newer earlier e q r p. p ∙ read_back newer earlier e q;
         closes = λ r log left on.
             let o = outcome yard Close m in
-            let all = close_all k follows left in
-            let granted_close : o.number ≡ granted = sym (ap (λ a. a.number) (answer_left k follows Close r _ _ _ _ all)) ∙ on in
-            rw (log_left k follows Close r _ _ _ _ all, stands_for) (closed_stands granted_close);
+            let all = close_all k follows r left in
+            let granted_close : o.number ≡ granted = sym (ap (λ a. a.number) (answer_left k follows Close (in_numbers r) _ _ _ _ all)) ∙ on in
+            rw (log_left k follows Close (in_numbers r) _ _ _ _ all, stands_for) (closed_stands granted_close);
       }
 
   -- a run may start with what a granted close leaves
   close_starts_again : (r : Answer) (log : List ℕ)
-      → LeavesLog k.held.books.records k.held.log (close_outcome k.held.books k.held.log) r log → r.number ≡ granted
+      → LeavesLog k.held.books.records k.held.log (close_outcome k.held.books k.held.log) r log → (in_numbers r).number ≡ granted
       → DayStarts (view r.books) × Lends (with_log k.held r.books log)
   unfolding after_call
   close_starts_again r log left on =
       let o = outcome yard Close m in
-      let answers = answer_left k follows Close r _ _ _ _ (close_all k follows left) in
+      let answers = answer_left k follows Close (in_numbers r) _ _ _ _ (close_all k follows r left) in
       let starts = close_starts yard m follows.kept (sym (ap (λ a. a.number) answers) ∙ on) in
       let v = follows.kept.valued in
       let books : (after_call m o).state.books ≡ view r.books = ap (λ s. s.books) (moved_state m o.after o.entry) ∙ ap (λ a. view a.books) (sym answers) in
-      let log_right = (called_then k follows (close_called left) [] (zeros_are_bytes 0) refl).joined.whole in (
+      let log_right = (called_then k follows (close_called r left) [] (zeros_are_bytes 0) refl).joined.whole in (
         subst DayStarts books starts.books,
         record {
           table = (v.table_length, v.table_in_bytes);
@@ -131,14 +132,14 @@ module _ (k : Known) (follows : Follows k) where
 
   -- what an order call leaves in the front of the lent numbers is accepted
   order_accepted : (h : ℕ) (r : Answer) (numbers : List ℕ) → LeavesBuffer k.held.numbers (order_outcome k.held.books h k.held.numbers) r numbers
-      → r.number ≡ granted → checked yard k.opening (as_it_stands k.held) (holder k.day h) (take r.answer numbers) ≡ granted
+      → (in_numbers r).number ≡ granted → checked yard k.opening (as_it_stands k.held) (holder k.day h) (take (in_numbers r).answer numbers) ≡ granted
   order_accepted h r numbers left on =
-      let all = order_all k follows h left in
-      let answers = answer_left k follows (Order h) r _ _ _ _ all in
+      let all = order_all k follows h r left in
+      let answers = answer_left k follows (Order h) (in_numbers r) _ _ _ _ all in
       let o = outcome yard (Order h) m in
-      let taken : take r.answer numbers ≡ take o.answer (buffer_after o.order k.held.numbers) =
-      ap₂ take (ap (λ a. a.answer) answers) (numbers_left k follows (Order h) r _ _ _ _ all) in
-      ap (λ log. checked yard k.opening log (holder k.day h) (take r.answer numbers)) stands_for
+      let taken : take (in_numbers r).answer numbers ≡ take o.answer (buffer_after o.order k.held.numbers) =
+      ap₂ take (ap (λ a. a.answer) answers) (numbers_left k follows (Order h) (in_numbers r) _ _ _ _ all) in
+      ap (λ log. checked yard k.opening log (holder k.day h) (take (in_numbers r).answer numbers)) stands_for
       ∙ ap (checked yard k.opening (standing k.day) (holder k.day h)) taken
       ∙ (orders_given yard m yard_within follows.kept).accepted h k.held.numbers follows.numbers (sym (ap (λ a. a.number) answers) ∙ on)
 
@@ -153,7 +154,7 @@ module _ (k : Known) (follows : Follows k) where
             ∙ ap (checked yard k.opening (as_it_stands k.held) (holder k.day h)) pairs
             ∙ order_accepted h r numbers left on;
         given = λ h r numbers left here.
-            ap (λ a. a.number) (answer_left k follows (Order h) r _ _ _ _ (order_all k follows h left))
+            ap (λ a. a.number) (answer_left k follows (Order h) (in_numbers r) _ _ _ _ (order_all k follows h r left))
             ∙ (orders_given yard m yard_within follows.kept).given h here;
       }
 

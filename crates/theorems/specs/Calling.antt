@@ -12,8 +12,9 @@ use Rattle.rules.specs.Calls.{Call, Open, Begin, Write, Read, Show, Commit, Give
 use Rattle.rules.specs.Runs.{DayStarts, value_taken, told}
 use Rattle.machine.specs.declared.books.Books.{Books}
 use Rattle.machine.specs.declared.books.Answer.{Answer}
+use Rattle.machine.specs.declared.books.Told.{Told}
 use Rattle.machine.specs.declared.call.Call.{Call as ByValue}
-use Rattle.machine.specs.View.{view, books_back}
+use Rattle.machine.specs.View.{view, books_back, in_numbers}
 use Rattle.machine.specs.Promises.{begin_outcome, write_outcome, read_outcome, show_outcome, commit_outcome, give_up_outcome, post_outcome, order_outcome, close_outcome, call_outcome, LeavesLog, LeavesTable, LeavesDrafts, LeavesBuffer, LeavesAll}
 use Rattle.machine.specs.Called.{call_of}
 
@@ -51,30 +52,30 @@ with_numbers k b numbers = record { books = b; table = k.table; drafts = k.draft
 -- a call of the machine that meets its promise: from what is held, the call, the number and the answer that it gives back, and what is held then
 pub data Called (k : Held) : Call → ℕ → ℕ → Held → Type 0 where
   open_called : {b : Books} → b ≡ books_back opened → Called k Open granted 0 (with_log k b k.log)
-  begin_called : {r : Answer} {log : List ℕ} → LeavesLog k.books.records k.log (begin_outcome k.books k.log) r log
-      → Called k Begin r.number r.answer (with_log k r.books log)
-  write_called : {h c : ℕ} {value : List ℕ} {r : Answer} {drafts log : List ℕ}
+  begin_called : (r : Answer) {log : List ℕ} → LeavesLog k.books.records k.log (begin_outcome k.books k.log) r log
+      → Called k Begin (in_numbers r).number (in_numbers r).answer (with_log k r.books log)
+  write_called : {h c : ℕ} {value : List ℕ} (r : Answer) {drafts log : List ℕ}
       → LeavesDrafts k.books.records k.log (write_outcome k.books h c value k.drafts k.log) r drafts log
-      → Called k (Write h c value) r.number r.answer (with_drafts k r.books drafts log)
-  read_called : {h c : ℕ} {r : Answer} {log : List ℕ}
+      → Called k (Write h c value) (in_numbers r).number (in_numbers r).answer (with_drafts k r.books drafts log)
+  read_called : {h c : ℕ} (r : Answer) {log : List ℕ}
       → LeavesLog k.books.records k.log (read_outcome k.books h c k.table k.drafts k.log) r log
-      → Called k (Read h c) r.number r.answer (with_log k r.books log)
+      → Called k (Read h c) (in_numbers r).number (in_numbers r).answer (with_log k r.books log)
   -- a show hands back a part and no number, and leaves all that is held
   show_called : {given h c : ℕ} → Called k (Show given h c) granted 0 k
-  commit_called : {h : ℕ} {r : Answer} {table log : List ℕ}
+  commit_called : {h : ℕ} (r : Answer) {table log : List ℕ}
       → LeavesTable k.books.records k.log (commit_outcome k.books h k.table k.drafts k.log) r table log
-      → Called k (Commit h) r.number r.answer (with_table k r.books table log)
-  give_up_called : {h : ℕ} {r : Answer} {log : List ℕ} → LeavesLog k.books.records k.log (give_up_outcome k.books h k.log) r log
-      → Called k (GiveUp h) r.number r.answer (with_log k r.books log)
-  post_called : {c : ℕ} {value : List ℕ} {r : Answer} {table log : List ℕ}
+      → Called k (Commit h) (in_numbers r).number (in_numbers r).answer (with_table k r.books table log)
+  give_up_called : {h : ℕ} (r : Answer) {log : List ℕ} → LeavesLog k.books.records k.log (give_up_outcome k.books h k.log) r log
+      → Called k (GiveUp h) (in_numbers r).number (in_numbers r).answer (with_log k r.books log)
+  post_called : {c : ℕ} {value : List ℕ} (r : Answer) {table log : List ℕ}
       → LeavesTable k.books.records k.log (post_outcome k.books c value k.table k.log) r table log
-      → Called k (Post c value) r.number r.answer (with_table k r.books table log)
-  order_called : {h : ℕ} {r : Answer} {numbers : List ℕ} → LeavesBuffer k.numbers (order_outcome k.books h k.numbers) r numbers
-      → Called k (Order h) r.number r.answer (with_numbers k r.books numbers)
-  close_called : {r : Answer} {log : List ℕ} → LeavesLog k.books.records k.log (close_outcome k.books k.log) r log
-      → Called k Close r.number r.answer (with_log k r.books log)
+      → Called k (Post c value) (in_numbers r).number (in_numbers r).answer (with_table k r.books table log)
+  order_called : {h : ℕ} (r : Answer) {numbers : List ℕ} → LeavesBuffer k.numbers (order_outcome k.books h k.numbers) r numbers
+      → Called k (Order h) (in_numbers r).number (in_numbers r).answer (with_numbers k r.books numbers)
+  close_called : (r : Answer) {log : List ℕ} → LeavesLog k.books.records k.log (close_outcome k.books k.log) r log
+      → Called k Close (in_numbers r).number (in_numbers r).answer (with_log k r.books log)
   -- any of them, issued by value
-  stepped_called : (call : ByValue) (value : List ℕ) {r : Answer} {table drafts log numbers : List ℕ}
+  stepped_called : (call : ByValue) (value : List ℕ) {r : Told} {table drafts log numbers : List ℕ}
       → LeavesAll k.books.records k.log k.numbers r table drafts log numbers (call_outcome k.books call value k.table k.drafts k.log k.numbers)
       → Called k (call_of call value) r.number r.answer (record { books = r.books; table = table; drafts = drafts; log = log; numbers = numbers })
 

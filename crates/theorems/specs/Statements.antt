@@ -1,9 +1,10 @@
 -- What is proved of every run of the machine's calls, against the checker's and the layout's own promises: the types of the theorems, to be read
 -- without their proofs. `Run` is any list of calls from an opening or a close, any number of days.
-use Rattle.std.specs.Prelude.{ℕ, ◌+◌, ◌*◌, ◌%◌, ◌≡◌, ◌↔◌, true, List, ◌∷◌, ◌++◌, length, take}
+use Rattle.std.specs.Prelude.{ℕ, ◌+◌, ◌*◌, ◌%◌, ◌≡◌, ◌↔◌, true, List, ◌∷◌, ◌++◌, length, take, Result, Ok}
 use Rattle.basics.specs.Bytes.{part}
 use Rattle.basics.specs.Walk.{Cycle}
 use Rattle.rules.specs.declared.Record.{Record}
+use Rattle.rules.specs.declared.refusal.Refusal.{Refusal}
 use Rattle.rules.specs.Sizes.{yard, record_bytes}
 use Rattle.rules.specs.Handles.{good_handle}
 use Rattle.rules.specs.Sound.{sound}
@@ -15,11 +16,10 @@ use Rattle.rules.specs.Checker.{checked}
 use Rattle.rules.specs.Runs.{DayStarts, holder, AnsweredBy, DayPair, WouldAdd, MeetsNone}
 use Rattle.rules.specs.History.{Permissive}
 use Rattle.log_layout.specs.Walked.{layout_number}
-use Rattle.log_back.specs.declared.entry.Entry.{Entry}
 use Rattle.log_back.specs.Course.{entry_read}
 use Rattle.checker.specs.Desk.{pairs_of, checked_pairs}
 use Rattle.machine.specs.declared.books.Answer.{Answer}
-use Rattle.machine.specs.View.{view}
+use Rattle.machine.specs.View.{view, in_numbers}
 use Rattle.machine.specs.Promises.{order_outcome, close_outcome, LeavesLog, LeavesBuffer}
 use Rattle.theorems.specs.Calling.{Held, as_it_stands, with_log, Called, Known, Lends, Run}
 
@@ -31,27 +31,27 @@ pub record ReadsBack (k : Known) : Type 0 where
   -- its records are exactly the events of the calls since the opening or the last close, and the books count them
   pub events_back : let log = as_it_stands k.held in day_of log (records_in log) ≡ k.day
   pub counted : k.held.books.records ≡ length k.day
-  -- so the reader's answer for each of these records is 0 and the event of its call
-  pub read_one : (newer earlier : List Record) (e : Record) → k.day ≡ newer ++ (e ∷ earlier) → (r : Entry)
-      → r ≡ entry_read yard (as_it_stands k.held) (length earlier + 1) → r ≡ record { number = granted; found = e }
+  -- so the reader's answer for each of these records is the event of its call
+  pub read_one : (newer earlier : List Record) (e : Record) → k.day ≡ newer ++ (e ∷ earlier) → (r : Result Record Refusal)
+      → r ≡ entry_read yard (as_it_stands k.held) (length earlier + 1) → r ≡ Ok e
   -- a granted close leaves the log as it stood in the front of the lent log
   pub closes : (r : Answer) (log : List ℕ) → LeavesLog k.held.books.records k.held.log (close_outcome k.held.books k.held.log) r log
-      → r.number ≡ granted → part 0 (record_bytes * k.held.books.records + record_bytes) log ≡ as_it_stands k.held
+      → (in_numbers r).number ≡ granted → part 0 (record_bytes * k.held.books.records + record_bytes) log ≡ as_it_stands k.held
 
 -- ---- orders
 
 pub record GivesOrders (k : Known) : Type 0 where
   -- an order that is given, as the lent numbers have it, gets 0 from the checker
   pub accepted : (h : ℕ) (r : Answer) (numbers : List ℕ) → LeavesBuffer k.held.numbers (order_outcome k.held.books h k.held.numbers) r numbers
-      → r.number ≡ granted → (x : ℕ) → x ≡ checked yard k.opening (as_it_stands k.held) (holder k.day h) (take r.answer numbers) → x ≡ granted
+      → (in_numbers r).number ≡ granted → (x : ℕ) → x ≡ checked yard k.opening (as_it_stands k.held) (holder k.day h) (take (in_numbers r).answer numbers) → x ≡ granted
   -- so it does from the duty desk's C entry, as little-endian pairs of bytes
   pub accepted_in_pairs : (h : ℕ) (r : Answer) (numbers bytes : List ℕ)
-      → LeavesBuffer k.held.numbers (order_outcome k.held.books h k.held.numbers) r numbers → r.number ≡ granted → length bytes % 2 ≡ 0
-      → pairs_of bytes ≡ take r.answer numbers → (x : ℕ) → x ≡ checked_pairs yard k.opening (as_it_stands k.held) (holder k.day h) bytes
+      → LeavesBuffer k.held.numbers (order_outcome k.held.books h k.held.numbers) r numbers → (in_numbers r).number ≡ granted → length bytes % 2 ≡ 0
+      → pairs_of bytes ≡ take (in_numbers r).answer numbers → (x : ℕ) → x ≡ checked_pairs yard k.opening (as_it_stands k.held) (holder k.day h) bytes
       → x ≡ granted
   -- and one is given for every good handle
   pub given : (h : ℕ) (r : Answer) (numbers : List ℕ) → LeavesBuffer k.held.numbers (order_outcome k.held.books h k.held.numbers) r numbers
-      → good_handle yard (view k.held.books) h ≡ true → r.number ≡ granted
+      → good_handle yard (view k.held.books) h ≡ true → (in_numbers r).number ≡ granted
 
 -- ---- Conflict
 
@@ -77,7 +77,7 @@ MeetsConflict k =
 pub record OfEveryRun : Type 0 where
   -- a run may start with what a granted close leaves
   pub closes : (k : Known) → Run k → (r : Answer) (log : List ℕ)
-      → LeavesLog k.held.books.records k.held.log (close_outcome k.held.books k.held.log) r log → r.number ≡ granted
+      → LeavesLog k.held.books.records k.held.log (close_outcome k.held.books k.held.log) r log → (in_numbers r).number ≡ granted
       → DayStarts (view r.books) × Lends (with_log k.held r.books log)
   pub reads_back : (k : Known) → Run k → ReadsBack k
   -- the books are sound, so a handle is good exactly if it is not stale

@@ -16,9 +16,6 @@ use Rattle.rules.specs.Books.{Books, Shaped, place_at, no_place, freed, begun, p
 pub yard_within : Within yard
 yard_within = record { places = omega arith; cells = omega arith }
 
-pub size_within : {z : Size} → z ≡ yard → Within z
-size_within size = subst Within (sym size) yard_within
-
 -- ---- one place
 
 -- a place's three lists are as wide as they are declared

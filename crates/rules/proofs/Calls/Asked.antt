@@ -13,7 +13,8 @@ use Rattle.basics.proofs.Below.{any_false}
 use Rattle.basics.proofs.Search.{least_is}
 use Rattle.rules.specs.Sizes.{Size, cell_bytes, table_bytes, drafts_bytes, log_bytes, most_records, handles}
 use Rattle.rules.specs.Books.{Books, place_at, is_free, is_live, is_held, lowest_free, no_free, live_count, room_taken}
-use Rattle.rules.specs.Handles.{place_of, turn_of, out_of_range, turn_agrees, good_handle, Caller, reads, writes, commits, gives_up, orders, asks_live, is_stale, is_ended}
+use Rattle.rules.specs.declared.Caller.TheVariants.{Reads, Writes, Commits, GivesUp, Orders}
+use Rattle.rules.specs.Handles.{place_of, turn_of, out_of_range, turn_agrees, good_handle, Caller, asks_live, is_stale, is_ended}
 use Rattle.rules.specs.Sound.{Sound}
 use Rattle.rules.specs.Numbers.{granted, stale, ended, Reason, ◌if◌, first_reason, wrong}
 use Rattle.rules.specs.Steps.{soundness_reason, handle_reasons, cell_reason, handle_cell_reasons, room_reason, begin_reasons, write_reasons, read_reasons, show_reasons, commit_reasons, give_up_reasons, post_reasons, order_reasons, close_reasons}
@@ -109,7 +110,7 @@ module _ (z : Size) (b : Books) (h : ℕ) (s : Sound z b) where
         record { books = s; below = caller.below; place = caller.place; live = eqb-true p.status 1 first; turn = caller.turn }
 
   -- a good handle is refused to no order
-  pub order_goes_on : good_handle z b h ≡ true → (later : List Reason) → first_reason (handle_reasons z orders b h ++ later) ≡ first_reason later
+  pub order_goes_on : good_handle z b h ≡ true → (later : List Reason) → first_reason (handle_reasons z Orders b h ++ later) ≡ first_reason later
   unfolding handle_reasons first_reason is_ended asks_live
   order_goes_on good later = rw (not-true (is_stale z b h) (sym good_is_not_stale ∙ good)) refl
 
@@ -161,7 +162,7 @@ unfolding write_reasons asks_live room_taken
 write_asked z value_length drafts_length log_length b h c e =
     let one = none_after _ _ (omega arith) e in
     let lengths = right_three value_length cell_bytes drafts_length (drafts_bytes z) log_length log_bytes one.0 in
-    let five = books_handle_cell_asked z writes b h c (room_reason (b.records + 1) (live_count z b) ∷ []) refl one.1 in
+    let five = books_handle_cell_asked z Writes b h c (room_reason (b.records + 1) (live_count z b) ∷ []) refl one.1 in
     let seven = room_asked (b.records + 1) (live_count z b) five.2 in
     record {
       value_right = lengths.0;
@@ -178,7 +179,7 @@ unfolding read_reasons asks_live room_taken
 read_asked z table_length drafts_length log_length b h c e =
     let one = none_after _ _ (omega arith) e in
     let lengths = right_three table_length (table_bytes z) drafts_length (drafts_bytes z) log_length log_bytes one.0 in
-    let five = books_handle_cell_asked z reads b h c (room_reason (b.records + 1) (live_count z b) ∷ []) refl one.1 in
+    let five = books_handle_cell_asked z Reads b h c (room_reason (b.records + 1) (live_count z b) ∷ []) refl one.1 in
     let seven = room_asked (b.records + 1) (live_count z b) five.2 in
     record {
       table_right = lengths.0;
@@ -203,7 +204,7 @@ show_asked z table_length drafts_length b given h c e =
     let zero = given_asked given _ e in
     let one = none_after _ _ (omega arith) zero.1 in
     let lengths = right_two table_length (table_bytes z) drafts_length (drafts_bytes z) one.0 in
-    let five = books_handle_cell_asked z reads b h c [] refl (rw append-nil one.1) in
+    let five = books_handle_cell_asked z Reads b h c [] refl (rw append-nil one.1) in
     record { read_granted = zero.0; table_right = lengths.0; drafts_right = lengths.1; caller = five.0; cell = five.1 }
 
 pub commit_asked : (z : Size) (table_length drafts_length log_length : ℕ) (b : Books) (h : ℕ) → first_reason (commit_reasons z table_length drafts_length log_length b h) ≡ granted
@@ -217,7 +218,7 @@ commit_asked z table_length drafts_length log_length b h e =
       table_right = lengths.0;
       drafts_right = lengths.1;
       log_right = lengths.2;
-      caller = caller_asked z b h (sound_asked z b two.0) commits two.1 refl;
+      caller = caller_asked z b h (sound_asked z b two.0) Commits two.1 refl;
     }
 
 pub give_up_asked : (z : Size) (log_length : ℕ) (b : Books) (h : ℕ) → first_reason (give_up_reasons z log_length b h) ≡ granted → GiveUpAsked z log_length b h
@@ -225,7 +226,7 @@ unfolding give_up_reasons soundness_reason asks_live
 give_up_asked z log_length b h e =
     let one = none_after _ _ (omega arith) e in
     let two = none_after (soundness_reason z b) _ (omega arith) one.1 in
-    record { log_right = right log_length log_bytes one.0; caller = caller_asked z b h (sound_asked z b two.0) gives_up two.1 refl }
+    record { log_right = right log_length log_bytes one.0; caller = caller_asked z b h (sound_asked z b two.0) GivesUp two.1 refl }
 
 pub post_asked : (z : Size) (value_length table_length log_length : ℕ) (b : Books) (c : ℕ) → first_reason (post_reasons z value_length table_length log_length b c) ≡ granted
     → PostAsked z value_length table_length log_length b c
@@ -252,11 +253,11 @@ unfolding order_reasons soundness_reason handle_reasons all_in
 order_asked z buffer_length b h e =
     let one = none_after _ _ (omega arith) e in
     let two = none_after (soundness_reason z b) _ (omega arith) one.1 in
-    let three = none_of_both (handle_reasons z orders b h) _ refl two.1 in
+    let three = none_of_both (handle_reasons z Orders b h) _ refl two.1 in
     let again = none_after _ _ (omega arith) three.1 in
     record {
       buffer_right = right buffer_length z.places one.0;
-      caller = let s = sound_asked z b two.0 in held_asked z b h s (good_asked z b h s orders three.0);
+      caller = let s = sound_asked z b two.0 in held_asked z b h s (good_asked z b h s Orders three.0);
       no_cycle = again.0;
     }
 

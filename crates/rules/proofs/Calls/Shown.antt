@@ -10,7 +10,8 @@ use Rattle.basics.proofs.Bools.{or_fails}
 use Rattle.rules.specs.declared.Place.{Place}
 use Rattle.rules.specs.Sizes.{Size, Within, table_bytes, drafts_bytes, handles}
 use Rattle.rules.specs.Books.{Books, Shaped, place_at, wrote, read_marked, with_record, number_of}
-use Rattle.rules.specs.Handles.{place_of, out_of_range, turn_agrees, reads, asks_live, is_stale, is_ended}
+use Rattle.rules.specs.declared.Caller.TheVariants.{Reads}
+use Rattle.rules.specs.Handles.{place_of, out_of_range, turn_agrees, asks_live, is_stale, is_ended}
 use Rattle.rules.specs.Sound.{Sound}
 use Rattle.rules.specs.Cells.{cell_of, draft_of}
 use Rattle.rules.specs.Numbers.{granted, first_reason}
@@ -44,9 +45,9 @@ module _ (z : Size) (b : Books) (h : ℕ) (caller : LiveCaller z b h) where
   unfolding is_stale
   not_stale = rw (in_range, agrees, caller.live)
 
-  not_ended : is_ended z reads b h ≡ false
+  not_ended : is_ended z Reads b h ≡ false
   unfolding asks_live
-  not_ended = ended_is_committed z reads b h refl in_range agrees ∙ ap (λ (s : ℕ). eqb s 2) caller.live
+  not_ended = ended_is_committed z Reads b h refl in_range agrees ∙ ap (λ (s : ℕ). eqb s 2) caller.live
 
 -- a show of which all is right is not refused
 show_goes_on : (z : Size) (table drafts : ℕ) (b : Books) (h c : ℕ) → ShowAsked z table drafts b granted h c

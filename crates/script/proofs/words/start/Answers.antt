@@ -1,16 +1,18 @@
 -- `script::words::start` meets its contract. The loop's invariant: the word of number i starts at the place. Assumes nothing.
-use native.Mathlib.Omega.{arith}
-use borrow.Author.Rules.{rules}
-use Rattle.script.proofs.Scanning.{start_first, start_next, start_there}
+use Rattle.std.proofs.Common.{◌∙◌, sym, ap, ◌+◌, arith}
+use Rattle.script.specs.Blanks.{next_start}
+use Rattle.script.proofs.Scanning.{place_none, first_most, next_within, start_first, start_next, start_missing}
 use Rattle.script.proofs.words.start.Goals as goal
 
-pub loop-i-init : goal.loop-i-init
-loop-i-init c = (search rules, search rules, start_first _ c.first_of-at.ensures.0)
+pub returns-in_err-at-clause-found : goal.returns-in_err-at-clause-found
+returns-in_err-at-clause-found c =
+    let first = c.first_of.ensures in
+    c.from_residual.ensures
+    ∙ sym (start_missing _ 0 _ (omega arith) (start_first _ ∙ place_none _ _ (first_most _ 0 _) (sym first.found ∙ c.in_err-at.was)))
 
-pub loop-i-preserved : goal.loop-i-preserved
-loop-i-preserved c =
-    (search rules, search rules, start_next _ c.loop-i.i c.loop-i.invariant.2 c.first_of-end.ensures.0 c.first_of-at-in-loop-i.ensures.0)
-
-pub returns : goal.returns
-returns c =
-    (start_there _ c.loop-i.i _ (omega arith) c.loop-i.invariant.2, search rules)
+pub returns-in_err-at-2-clause-found : goal.returns-in_err-at-2-clause-found
+returns-in_err-at-2-clause-found c =
+    let next = c.next.ensures in
+    let here = ap (next_start c.args.line.now) (sym c.loop.invariant.0) in
+    c.from_residual-in_err-at-2.ensures
+    ∙ sym (start_missing _ (c.loop.counter + 1) _ (omega arith) (start_next _ _ ∙ here ∙ place_none _ _ (next_within _ _) (sym next.found ∙ c.in_err-at-2.was)))

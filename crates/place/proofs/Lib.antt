@@ -1,2 +1,0 @@
-pub mod Changes
-pub mod Lookup

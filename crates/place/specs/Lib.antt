@@ -1,2 +1,0 @@
--- The rows of the gate's table.
-pub mod Rows

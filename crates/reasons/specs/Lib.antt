@@ -1,0 +1,2 @@
+-- The lengths of what is lent.
+pub mod Lengths
