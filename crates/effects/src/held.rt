@@ -20,23 +20,23 @@ use rules::sizes::CELL_BYTES;
 pub fn turn_back(at: Controller, kind: u8, i: usize, c: usize, log: &mut [u8]) -> Step
     requires i_lt_width { (i < width) × (c < width) }
     requires records_lt_most_records { (at.records < most_records) × (length log.old ≡ log_bytes) }
-    ensures step { in_numbers result ≡ step_of (turned_back (state_of (books_at at) [] []) kind i c) }
-    ensures log { log.new ≡ log_after at.records (turned_back (state_of (books_at at) [] []) kind i c).entry log.old }
+    ensures step { in_numbers result ≡ step_of (turned_back (state_of (books_at at.entry) [] []) kind i c) }
+    ensures log { log.new ≡ log_after at.entry.records (turned_back (state_of (books_at at.entry) [] []) kind i c).entry log.old }
 {
     let p = at.places[i];
     record::add(log, at.records, kind, i, p, c, [0; CELL_BYTES]);
     record::changed(Err(Refusal::Conflict), at, i, change::free(p))
 }
 
-impl Transaction {
+impl Transaction<'_> {
     // Write puts the value in the place's draft of the cell and marks the cell written.
     pub fn write(self, c: usize, value: [u8; 8], drafts: &mut [u8], log: &mut [u8]) -> Step
         requires cell_there { c < self.at.limits.size.cells }
         requires log_len { length log.old ≡ log_bytes }
         requires drafts_len { length drafts.old ≡ drafts_bytes self.at.limits.size }
-        ensures step { in_numbers result ≡ step_of (write_of self.at.limits.size (state_of (books_at self.at) [] drafts.old) self.place c value) }
-        ensures drafts { drafts.new ≡ (write_of self.at.limits.size (state_of (books_at self.at) [] drafts.old) self.place c value).after.drafts }
-        ensures log { log.new ≡ log_after self.at.records (write_of self.at.limits.size (state_of (books_at self.at) [] drafts.old) self.place c value).entry log.old }
+        ensures step { in_numbers result ≡ step_of (write_of self.entry.at.limits.size (state_of (books_at self.entry.at) [] drafts.old) self.entry.place c value) }
+        ensures drafts { drafts.new ≡ (write_of self.entry.at.limits.size (state_of (books_at self.entry.at) [] drafts.old) self.entry.place c value).after.drafts }
+        ensures log { log.new ≡ log_after self.entry.at.records (write_of self.entry.at.limits.size (state_of (books_at self.entry.at) [] drafts.old) self.entry.place c value).entry log.old }
     {
         let at = self.at;
         let i = self.place;
@@ -54,8 +54,8 @@ impl Transaction {
     // Give up frees the place.
     pub fn give_up(self, log: &mut [u8]) -> Step
         requires log_len { length log.old ≡ log_bytes }
-        ensures step { in_numbers result ≡ step_of (give_up_of self.at.limits.size (state_of (books_at self.at) [] []) self.place) }
-        ensures log { log.new ≡ log_after self.at.records (give_up_of self.at.limits.size (state_of (books_at self.at) [] []) self.place).entry log.old }
+        ensures step { in_numbers result ≡ step_of (give_up_of self.entry.at.limits.size (state_of (books_at self.entry.at) [] []) self.entry.place) }
+        ensures log { log.new ≡ log_after self.entry.at.records (give_up_of self.entry.at.limits.size (state_of (books_at self.entry.at) [] []) self.entry.place).entry log.old }
     {
         let at = self.at;
         let i = self.place;
@@ -77,8 +77,8 @@ impl Transaction {
         requires cell_there { c < self.at.limits.size.cells }
         requires log_len { length log.old ≡ log_bytes }
         requires drafts_len { length drafts.now ≡ drafts_bytes self.at.limits.size }
-        ensures step { in_numbers result ≡ step_of (own_read_of self.at.limits.size (state_of (books_at self.at) [] drafts.now) self.place c) }
-        ensures log { log.new ≡ log_after self.at.records (own_read_of self.at.limits.size (state_of (books_at self.at) [] drafts.now) self.place c).entry log.old }
+        ensures step { in_numbers result ≡ step_of (own_read_of self.entry.at.limits.size (state_of (books_at self.entry.at) [] drafts.now) self.entry.place c) }
+        ensures log { log.new ≡ log_after self.entry.at.records (own_read_of self.entry.at.limits.size (state_of (books_at self.entry.at) [] drafts.now) self.entry.place c).entry log.old }
     {
         let at = self.at;
         let i = self.place;
@@ -99,7 +99,7 @@ impl Transaction {
         Step {
             given: Ok(0),
             records: at.records + 1,
-            places: at.places,
+            places: *at.places,
         }
     }
 }

@@ -13,20 +13,20 @@ use place::change;
 use rules::kinds::RecordKind;
 use rules::sizes::CELL_BYTES;
 
-impl Transaction {
+impl Transaction<'_> {
     // A read of any other cell: granted, the table's value is recorded and the read marked.
     fn judged_read(self, c: usize, table: &[u8], log: &mut [u8]) -> Step
         requires cell_there { c < self.at.limits.size.cells }
         requires log_len { length log.old ≡ log_bytes }
         requires table_len { length table.now ≡ table_bytes self.at.limits.size }
-        ensures step { in_numbers result ≡ step_of (judged_read_of self.at.limits.size (state_of (books_at self.at) table.now []) self.place c) }
-        ensures log { log.new ≡ log_after self.at.records (judged_read_of self.at.limits.size (state_of (books_at self.at) table.now []) self.place c).entry log.old }
+        ensures step { in_numbers result ≡ step_of (judged_read_of self.entry.at.limits.size (state_of (books_at self.entry.at) table.now []) self.entry.place c) }
+        ensures log { log.new ≡ log_after self.entry.at.records (judged_read_of self.entry.at.limits.size (state_of (books_at self.entry.at) table.now []) self.entry.place c).entry log.old }
     {
         let at = self.at;
         let i = self.place;
         let p = at.places[i];
         let read = record::changed(Ok(0), at, i, change::mark_read(p, c, at.records + 1));
-        if verdict::is_conflict(read.places, i, at.limits) {
+        if verdict::is_conflict(&read.places, i, at.limits) {
             return held::turn_back(at, RecordKind::ReadConflict.number(), i, c, log);
         }
         let value = cell::value_at(table, c);
@@ -47,8 +47,8 @@ impl Transaction {
         requires cell_there { c < self.at.limits.size.cells }
         requires log_len { length log.old ≡ log_bytes }
         requires table_len { (length table.now ≡ table_bytes self.at.limits.size) × (length drafts.now ≡ drafts_bytes self.at.limits.size) }
-        ensures step { in_numbers result ≡ step_of (read_of self.at.limits.size (state_of (books_at self.at) table.now drafts.now) self.place c) }
-        ensures log { log.new ≡ log_after self.at.records (read_of self.at.limits.size (state_of (books_at self.at) table.now drafts.now) self.place c).entry log.old }
+        ensures step { in_numbers result ≡ step_of (read_of self.entry.at.limits.size (state_of (books_at self.entry.at) table.now drafts.now) self.entry.place c) }
+        ensures log { log.new ≡ log_after self.entry.at.records (read_of self.entry.at.limits.size (state_of (books_at self.entry.at) table.now drafts.now) self.entry.place c).entry log.old }
     {
         if self.at.places[self.place].written[c] {
             self.own_read(c, drafts, log)
@@ -61,15 +61,15 @@ impl Transaction {
     pub fn commit(self, table: &mut [u8], drafts: &[u8], log: &mut [u8]) -> Step
         requires log_len { length log.old ≡ log_bytes }
         requires table_len { (length table.old ≡ table_bytes self.at.limits.size) × (length drafts.now ≡ drafts_bytes self.at.limits.size) }
-        ensures step { in_numbers result ≡ step_of (judged_commit_of self.at.limits.size (state_of (books_at self.at) table.old drafts.now) self.place) }
-        ensures table { table.new ≡ (judged_commit_of self.at.limits.size (state_of (books_at self.at) table.old drafts.now) self.place).after.table }
-        ensures log { log.new ≡ log_after self.at.records (judged_commit_of self.at.limits.size (state_of (books_at self.at) table.old drafts.now) self.place).entry log.old }
+        ensures step { in_numbers result ≡ step_of (judged_commit_of self.entry.at.limits.size (state_of (books_at self.entry.at) table.old drafts.now) self.entry.place) }
+        ensures table { table.new ≡ (judged_commit_of self.entry.at.limits.size (state_of (books_at self.entry.at) table.old drafts.now) self.entry.place).after.table }
+        ensures log { log.new ≡ log_after self.entry.at.records (judged_commit_of self.entry.at.limits.size (state_of (books_at self.entry.at) table.old drafts.now) self.entry.place).entry log.old }
     {
         let at = self.at;
         let i = self.place;
         let p = at.places[i];
         let committed = record::changed(Ok(0), at, i, change::commit(p, at.records + 1));
-        if verdict::is_conflict(committed.places, i, at.limits) {
+        if verdict::is_conflict(&committed.places, i, at.limits) {
             return held::turn_back(at, RecordKind::CommitConflict.number(), i, 0, log);
         }
         lay::lay(table, drafts, p.written, i, at.limits);

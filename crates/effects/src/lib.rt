@@ -24,8 +24,8 @@ pub struct Step {
 // A transaction at its place, of a controller whose log has room for one record more.
 // The promises name the lent slices: so their lengths are asked for by clauses, and by no type.
 #[derive(Clone, Copy)]
-pub struct Transaction {
-    pub at: Controller,
+pub struct Transaction<'a> {
+    pub at: Controller<'a>,
     pub place: usize,
     ghost place_there: { place < at.limits.size.places },
     ghost room: { at.records < most_records },

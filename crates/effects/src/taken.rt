@@ -16,10 +16,10 @@ use survey::search;
 
 // Begin takes the lowest free place, of which the clauses say that there is one, and answers the handle.
 pub fn begin(at: Controller, log: &mut [u8]) -> Step
-    requires places_bound { lowest_free at.limits.size (of_places at.places) < at.limits.size.places }
+    requires places_bound { lowest_free at.limits.size (of_places at.places.now) < at.limits.size.places }
     requires records_lt_most_records { (at.records < most_records) × (length log.old ≡ log_bytes) }
-    ensures step { in_numbers result ≡ step_of (begin_of at.limits.size (state_of (books_at at) [] [])) }
-    ensures log { log.new ≡ log_after at.records (begin_of at.limits.size (state_of (books_at at) [] [])).entry log.old }
+    ensures step { in_numbers result ≡ step_of (begin_of at.entry.limits.size (state_of (books_at at.entry) [] [])) }
+    ensures log { log.new ≡ log_after at.entry.records (begin_of at.entry.limits.size (state_of (books_at at.entry) [] [])).entry log.old }
 {
     let i = search::lowest_free_of(at.places, at.limits).unwrap();
     let begun = change::begin(at.places[i], at.records + 1);
@@ -37,12 +37,12 @@ pub fn begin(at: Controller, log: &mut [u8]) -> Step
 
 // Post takes the lowest free place, writes the table and answers the handle.
 pub fn post(at: Controller, c: usize, value: [u8; 8], table: &mut [u8], log: &mut [u8]) -> Step
-    requires places_bound { (lowest_free at.limits.size (of_places at.places) < at.limits.size.places) × (c < at.limits.size.cells) }
+    requires places_bound { (lowest_free at.limits.size (of_places at.places.now) < at.limits.size.places) × (c < at.limits.size.cells) }
     requires records_lt_most_records { (at.records < most_records) × (length log.old ≡ log_bytes) }
     requires table_len { length table.old ≡ table_bytes at.limits.size }
-    ensures step { in_numbers result ≡ step_of (post_of at.limits.size (state_of (books_at at) table.old []) c value) }
-    ensures table { table.new ≡ (post_of at.limits.size (state_of (books_at at) table.old []) c value).after.table }
-    ensures log { log.new ≡ log_after at.records (post_of at.limits.size (state_of (books_at at) table.old []) c value).entry log.old }
+    ensures step { in_numbers result ≡ step_of (post_of at.entry.limits.size (state_of (books_at at.entry) table.old []) c value) }
+    ensures table { table.new ≡ (post_of at.entry.limits.size (state_of (books_at at.entry) table.old []) c value).after.table }
+    ensures log { log.new ≡ log_after at.entry.records (post_of at.entry.limits.size (state_of (books_at at.entry) table.old []) c value).entry log.old }
 {
     let i = search::lowest_free_of(at.places, at.limits).unwrap();
     let posted = change::post(at.places[i], c, at.records + 1);

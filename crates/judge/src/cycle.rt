@@ -5,7 +5,8 @@ ghost use Rattle.rules.specs.Sizes.{width};
 ghost use Rattle.pairs.specs.Square.{is_in, said_before};
 
 // Whether the pairs contain a cycle. Somebody with nobody left before him is taken off, again and again; where somebody is left and nobody
-// can be taken off, there is a cycle, and the search is left with that verdict from inside the passes.
+// can be taken off, there is a cycle, and the search is left with that verdict from inside the passes:
+// labelled nested loops, the form that document 01 names.
 #[tactic(auto, using(basics::proofs::Below::any_none, crate::proofs::Unmarked::row_skips, crate::proofs::Peel::passed_none))]
 pub fn contains_cycle(rows: [[bool; 32]; 32], present: [bool; 32], places: usize) -> bool
     requires { places ≤ width }

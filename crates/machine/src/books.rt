@@ -60,15 +60,14 @@ impl From<Answer> for Told {
 
 impl Books {
     // The controller of document 01 with these books.
-    pub(crate) fn controller(self) -> Controller
-        ensures records { result.records ≡ self.records }
-        ensures places { result.places ≡ self.places }
+    pub(crate) fn controller(&self) -> Controller<'_>
+        ensures records { result.records ≡ self.now.records }
+        ensures places { result.places.now ≡ self.now.places }
         ensures size { result.limits.size ≡ yard }
     {
-        let places = self.places;
         Controller {
             records: self.records,
-            places,
+            places: &self.places,
             limits: sizes::yard_limits(),
         }
     }

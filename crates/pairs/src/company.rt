@@ -35,9 +35,9 @@ pub fn moment_of(p: Place, z: Limits) -> u16
 
 // Who is in the company of the transaction at place i: itself and every transaction committed before its moment.
 #[tactic(auto, using(basics::proofs::Filled::filled_none, basics::proofs::Filled::filled_set, basics::proofs::Filled::filled_whole), unfolding(rules::specs::Judging::company))]
-pub fn company_of(places: [Place; 32], i: usize, z: Limits) -> [bool; 32]
+pub fn company_of(places: &[Place; 32], i: usize, z: Limits) -> [bool; 32]
     requires i_lt_width { i < width }
-    ensures { result ≡ filled_below (company z.size (of_places places) i) false z.size.places width }
+    ensures { result ≡ filled_below (company z.size (of_places places.now) i) false z.size.places width }
 {
     let moment = moment_of(places[i], z);
     let mut present = [false; 32];

@@ -25,13 +25,13 @@ fn row_of(places: &[Place; 32], present: &[bool; 32], m: usize, z: Limits) -> [b
 
 // All rows of those present.
 #[tactic(auto, using(basics::proofs::Filled::filled_none, basics::proofs::Filled::filled_set, basics::proofs::Filled::filled_passed, basics::proofs::Filled::filled_whole), unfolding(crate::specs::Square::square_of))]
-pub fn square(places: [Place; 32], present: [bool; 32], z: Limits) -> [[bool; 32]; 32]
-    ensures { result ≡ square_of z.size (of_places places) present }
+pub fn square(places: &[Place; 32], present: [bool; 32], z: Limits) -> [[bool; 32]; 32]
+    ensures { result ≡ square_of z.size (of_places places.now) present }
 {
     let mut rows = [[false; 32]; 32];
     for m in 0..z.size.places {
         if present[m] {
-            rows[m] = row_of(&places, &present, m, z);
+            rows[m] = row_of(places, &present, m, z);
         }
     }
     rows

@@ -18,7 +18,7 @@ use survey::search;
 
 // Begin: 1, 2, 6, 7.
 pub fn of_begin(at: Controller, log: usize) -> Result<(), Refusal>
-    ensures { said result ≡ first_reason (begin_reasons at.limits.size log (books_at at)) }
+    ensures { said result ≡ first_reason (begin_reasons at.entry.limits.size log (books_at at.entry)) }
 {
     shared::of_lengths([log], [LOG_BYTES])?;
     shared::of_books(at)?;
@@ -34,7 +34,7 @@ pub fn of_write(
     drafts: usize,
     log: usize,
 ) -> Result<(), Refusal>
-    ensures { said result ≡ first_reason (write_reasons at.limits.size value drafts log (books_at at) handle cell) }
+    ensures { said result ≡ first_reason (write_reasons at.entry.limits.size value drafts log (books_at at.entry) handle cell) }
 {
     let wanted = [CELL_BYTES, shared::drafts_bytes(at.limits), LOG_BYTES];
     shared::of_lengths([value, drafts, log], wanted)?;
@@ -50,7 +50,7 @@ pub fn of_read(
     drafts: usize,
     log: usize,
 ) -> Result<(), Refusal>
-    ensures { said result ≡ first_reason (read_reasons at.limits.size table drafts log (books_at at) handle cell) }
+    ensures { said result ≡ first_reason (read_reasons at.entry.limits.size table drafts log (books_at at.entry) handle cell) }
 {
     let wanted = [
         shared::table_bytes(at.limits),
@@ -69,7 +69,7 @@ fn of_look(
     table: usize,
     drafts: usize,
 ) -> Result<(), Refusal>
-    ensures { said result ≡ first_reason (show_reasons at.limits.size table drafts (books_at at) granted handle cell) }
+    ensures { said result ≡ first_reason (show_reasons at.entry.limits.size table drafts (books_at at.entry) granted handle cell) }
 {
     let wanted = [
         shared::table_bytes(at.limits),
@@ -82,7 +82,7 @@ fn of_look(
 // Show: the read's own number, then 1, 2, 3, 4, 5.
 // A number: the read's own may be any, also one that document 01 does not name.
 pub fn of_show(at: Controller, given: u8, handle: u32, cell: u32, table: usize, drafts: usize) -> u8
-    ensures { result ≡ first_reason (show_reasons at.limits.size table drafts (books_at at) given handle cell) }
+    ensures { result ≡ first_reason (show_reasons at.entry.limits.size table drafts (books_at at.entry) given handle cell) }
 {
     if given != GRANTED {
         return given;
@@ -98,7 +98,7 @@ pub fn of_commit(
     drafts: usize,
     log: usize,
 ) -> Result<(), Refusal>
-    ensures { said result ≡ first_reason (commit_reasons at.limits.size table drafts log (books_at at) handle) }
+    ensures { said result ≡ first_reason (commit_reasons at.entry.limits.size table drafts log (books_at at.entry) handle) }
 {
     let wanted = [
         shared::table_bytes(at.limits),
@@ -111,7 +111,7 @@ pub fn of_commit(
 
 // Give up: 1, 2, 3, 4.
 pub fn of_give_up(at: Controller, handle: u32, log: usize) -> Result<(), Refusal>
-    ensures { said result ≡ first_reason (give_up_reasons at.limits.size log (books_at at) handle) }
+    ensures { said result ≡ first_reason (give_up_reasons at.entry.limits.size log (books_at at.entry) handle) }
 {
     shared::of_lengths([log], [LOG_BYTES])?;
     shared::of_handle(at, Caller::GivesUp, handle)
@@ -125,7 +125,7 @@ pub fn of_post(
     table: usize,
     log: usize,
 ) -> Result<(), Refusal>
-    ensures { said result ≡ first_reason (post_reasons at.limits.size value table log (books_at at) cell) }
+    ensures { said result ≡ first_reason (post_reasons at.entry.limits.size value table log (books_at at.entry) cell) }
 {
     let wanted = [CELL_BYTES, shared::table_bytes(at.limits), LOG_BYTES];
     shared::of_lengths([value, table, log], wanted)?;
@@ -136,7 +136,7 @@ pub fn of_post(
 
 // Order: 1, 2, 3, then 2 for a cycle in the company.
 pub fn of_order(at: Controller, handle: u32, numbers: usize) -> Result<(), Refusal>
-    ensures { said result ≡ first_reason (order_reasons at.limits.size numbers (books_at at) handle) }
+    ensures { said result ≡ first_reason (order_reasons at.entry.limits.size numbers (books_at at.entry) handle) }
 {
     shared::of_lengths([numbers], [at.limits.size.places])?;
     shared::of_handle(at, Caller::Orders, handle)?;
@@ -146,7 +146,7 @@ pub fn of_order(at: Controller, handle: u32, numbers: usize) -> Result<(), Refus
 
 // Close: 1, 2, 8.
 pub fn of_close(at: Controller, log: usize) -> Result<(), Refusal>
-    ensures { said result ≡ first_reason (close_reasons at.limits.size log (books_at at)) }
+    ensures { said result ≡ first_reason (close_reasons at.entry.limits.size log (books_at at.entry)) }
 {
     shared::of_lengths([log], [LOG_BYTES])?;
     shared::of_books(at)?;

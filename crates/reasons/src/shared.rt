@@ -45,14 +45,14 @@ pub fn of_lengths<const N: usize>(lengths: [usize; N], wanted: [usize; N]) -> Re
 
 // 2: the books.
 pub fn of_books(at: Controller) -> Result<(), Refusal>
-    ensures { said result ≡ first_reason (soundness_reason at.limits.size (books_at at) ∷ []) }
+    ensures { said result ≡ first_reason (soundness_reason at.entry.limits.size (books_at at.entry) ∷ []) }
 {
     refuse_if(!whole::are_sound(at), Unsound)
 }
 
 // 2, 3 and 4: the books and the handle, for each of the five calls that take one.
 pub fn of_handle(at: Controller, call: Caller, handle: u32) -> Result<(), Refusal>
-    ensures { said result ≡ first_reason (soundness_reason at.limits.size (books_at at) ∷ handle_reasons at.limits.size call (books_at at) handle) }
+    ensures { said result ≡ first_reason (soundness_reason at.entry.limits.size (books_at at.entry) ∷ handle_reasons at.entry.limits.size call (books_at at.entry) handle) }
 {
     of_books(at)?;
     gate::lookup(
@@ -77,7 +77,7 @@ pub fn of_handle_and_cell(
     handle: u32,
     cell: u32,
 ) -> Result<(), Refusal>
-    ensures { said result ≡ first_reason (handle_cell_reasons at.limits.size call (books_at at) handle cell) }
+    ensures { said result ≡ first_reason (handle_cell_reasons at.entry.limits.size call (books_at at.entry) handle cell) }
 {
     of_handle(at, call, handle)?;
     of_cell(cell, at.limits)
@@ -92,7 +92,7 @@ pub fn of_room(records: u32, live: u32) -> Result<(), Refusal>
 
 // 6 and 7: a free place, and room in the log for one record more and so many live ones after the call.
 pub fn of_free(at: Controller, live: u32) -> Result<(), Refusal>
-    ensures { said result ≡ first_reason ((full if no_free at.limits.size (books_at at)) ∷ room_reason (at.records + 1) live ∷ []) }
+    ensures { said result ≡ first_reason ((full if no_free at.entry.limits.size (books_at at.entry)) ∷ room_reason (at.entry.records + 1) live ∷ []) }
 {
     search::lowest_free_of(at.places, at.limits).ok_or(Full)?;
     of_room(at.records as u32 + 1, live)
@@ -100,7 +100,7 @@ pub fn of_free(at: Controller, live: u32) -> Result<(), Refusal>
 
 // 2 to 5 and 7: the books, the handle, the cell and the log's room of a read or write.
 pub fn of_access(at: Controller, call: Caller, handle: u32, cell: u32) -> Result<(), Refusal>
-    ensures { said result ≡ first_reason (handle_cell_reasons at.limits.size call (books_at at) handle cell ++ (room_reason (at.records + 1) (live_count at.limits.size (books_at at)) ∷ [])) }
+    ensures { said result ≡ first_reason (handle_cell_reasons at.entry.limits.size call (books_at at.entry) handle cell ++ (room_reason (at.entry.records + 1) (live_count at.entry.limits.size (books_at at.entry)) ∷ [])) }
 {
     of_handle_and_cell(at, call, handle, cell)?;
     of_room(

@@ -112,7 +112,7 @@ books_of records places = record { records = records; places = places }
 
 -- the books of a controller
 abbrev pub books_at : Controller → Books
-books_at k = books_of k.records k.places
+books_at k = books_of k.records k.places.now
 
 -- the record that a call adds has this number
 abbrev pub number_of : Books → ℕ

@@ -48,7 +48,7 @@ fn is_place_sound(p: Place, records: u16, z: Limits) -> bool
 // Each place by itself.
 #[tactic(auto, using(basics::proofs::Below::all_none, basics::proofs::Below::all_passes))]
 pub fn each_sound(at: Controller) -> bool
-    ensures { result ≡ all_below (λ i. place_sound at.limits.size at.records (place_at (of_places at.places) i)) at.limits.size.places }
+    ensures { result ≡ all_below (λ i. place_sound at.entry.limits.size at.entry.records (place_at (of_places at.entry.places.now) i)) at.entry.limits.size.places }
 {
     for i in 0..at.limits.size.places {
         if !is_place_sound(at.places[i], at.records, at.limits) {

@@ -11,7 +11,7 @@ use survey::columns;
 
 // Whether the books of that record count and those places are sound.
 pub fn are_sound(at: Controller) -> bool
-    ensures { result ≡ sound at.limits.size (books_at at) }
+    ensures { result ≡ sound at.entry.limits.size (books_at at.entry) }
 {
     let seen = columns::columns_of(at.places, at.limits);
     let places = at.limits.size.places;

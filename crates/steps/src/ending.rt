@@ -13,9 +13,9 @@ use rules::Controller;
 
 // Commit is judged as if granted; granted, the written cells' drafts go into the table.
 pub fn commit(at: Controller, handle: u32, table: &mut [u8], drafts: &[u8], log: &mut [u8]) -> Step
-    ensures step { in_numbers result ≡ step_of (commit_rule at.limits.size (length log.old) (state_of (books_at at) table.old drafts.now) handle) }
-    ensures table { table.new ≡ (commit_rule at.limits.size (length log.old) (state_of (books_at at) table.old drafts.now) handle).after.table }
-    ensures log { log.new ≡ log_after at.records (commit_rule at.limits.size (length log.old) (state_of (books_at at) table.old drafts.now) handle).entry log.old }
+    ensures step { in_numbers result ≡ step_of (commit_rule at.entry.limits.size (length log.old) (state_of (books_at at.entry) table.old drafts.now) handle) }
+    ensures table { table.new ≡ (commit_rule at.entry.limits.size (length log.old) (state_of (books_at at.entry) table.old drafts.now) handle).after.table }
+    ensures log { log.new ≡ log_after at.entry.records (commit_rule at.entry.limits.size (length log.old) (state_of (books_at at.entry) table.old drafts.now) handle).entry log.old }
 {
     match asked::of_commit(at, handle, table.len(), drafts.len(), log.len()) {
         Err(refusal) => record::refused(refusal, at),
@@ -31,8 +31,8 @@ pub fn commit(at: Controller, handle: u32, table: &mut [u8], drafts: &[u8], log:
 
 // Give up frees the place.
 pub fn give_up(at: Controller, handle: u32, log: &mut [u8]) -> Step
-    ensures step { in_numbers result ≡ step_of (give_up_rule at.limits.size (length log.old) (state_of (books_at at) [] []) handle) }
-    ensures log { log.new ≡ log_after at.records (give_up_rule at.limits.size (length log.old) (state_of (books_at at) [] []) handle).entry log.old }
+    ensures step { in_numbers result ≡ step_of (give_up_rule at.entry.limits.size (length log.old) (state_of (books_at at.entry) [] []) handle) }
+    ensures log { log.new ≡ log_after at.entry.records (give_up_rule at.entry.limits.size (length log.old) (state_of (books_at at.entry) [] []) handle).entry log.old }
 {
     match asked::of_give_up(at, handle, log.len()) {
         Err(refusal) => record::refused(refusal, at),
@@ -48,8 +48,8 @@ pub fn give_up(at: Controller, handle: u32, log: &mut [u8]) -> Step
 
 // Close writes the trailer, frees every place and sets records to 0.
 pub fn close(at: Controller, log: &mut [u8]) -> Step
-    ensures step { in_numbers result ≡ step_of (close_rule at.limits.size (length log.old) (commits_in log.old at.records) (state_of (books_at at) [] [])) }
-    ensures log { log.new ≡ log_after at.records (close_rule at.limits.size (length log.old) (commits_in log.old at.records) (state_of (books_at at) [] [])).entry log.old }
+    ensures step { in_numbers result ≡ step_of (close_rule at.entry.limits.size (length log.old) (commits_in log.old at.entry.records) (state_of (books_at at.entry) [] [])) }
+    ensures log { log.new ≡ log_after at.entry.records (close_rule at.entry.limits.size (length log.old) (commits_in log.old at.entry.records) (state_of (books_at at.entry) [] [])).entry log.old }
 {
     match asked::of_close(at, log.len()) {
         Err(refusal) => record::refused(refusal, at),

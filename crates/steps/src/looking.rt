@@ -23,8 +23,8 @@ pub fn show<'a>(
     drafts: &'a [u8],
     table: &'a [u8],
 ) -> &'a [u8]
-    ensures contents { result.now ≡ shown_bytes drafts.now table.now (show_rule at.limits.size (state_of (books_at at) table.now drafts.now) given handle cell).shown }
-    ensures place { result.ref_ptr ≡ shown_at drafts.entry.ref_ptr table.entry.ref_ptr (show_rule at.limits.size (state_of (books_at at) table.now drafts.now) given handle cell).shown }
+    ensures contents { result.now ≡ shown_bytes drafts.now table.now (show_rule at.entry.limits.size (state_of (books_at at.entry) table.now drafts.now) given handle cell).shown }
+    ensures place { result.ref_ptr ≡ shown_at drafts.entry.ref_ptr table.entry.ref_ptr (show_rule at.entry.limits.size (state_of (books_at at.entry) table.now drafts.now) given handle cell).shown }
 {
     if asked::of_show(at, given, handle, cell, table.len(), drafts.len()) != GRANTED {
         return &table[0..0];
@@ -41,8 +41,8 @@ pub fn show<'a>(
 
 // Order answers how many there are and puts them into the first numbers of the order buffer.
 pub fn order(at: Controller, handle: u32, numbers: &mut [u16]) -> Step
-    ensures step { in_numbers result ≡ step_of (order_rule at.limits.size (length numbers.old) (state_of (books_at at) [] []) handle) }
-    ensures numbers { numbers.new ≡ buffer_after (order_rule at.limits.size (length numbers.old) (state_of (books_at at) [] []) handle).order numbers.old }
+    ensures step { in_numbers result ≡ step_of (order_rule at.entry.limits.size (length numbers.old) (state_of (books_at at.entry) [] []) handle) }
+    ensures numbers { numbers.new ≡ buffer_after (order_rule at.entry.limits.size (length numbers.old) (state_of (books_at at.entry) [] []) handle).order numbers.old }
 {
     match asked::of_order(at, handle, numbers.len()) {
         Err(refusal) => record::refused(refusal, at),

@@ -20,9 +20,9 @@ pub fn write(
     drafts: &mut [u8],
     log: &mut [u8],
 ) -> Step
-    ensures step { in_numbers result ≡ step_of (write_rule at.limits.size (length log.old) (state_of (books_at at) [] drafts.old) handle cell value.now) }
-    ensures drafts { drafts.new ≡ (write_rule at.limits.size (length log.old) (state_of (books_at at) [] drafts.old) handle cell value.now).after.drafts }
-    ensures log { log.new ≡ log_after at.records (write_rule at.limits.size (length log.old) (state_of (books_at at) [] drafts.old) handle cell value.now).entry log.old }
+    ensures step { in_numbers result ≡ step_of (write_rule at.entry.limits.size (length log.old) (state_of (books_at at.entry) [] drafts.old) handle cell value.now) }
+    ensures drafts { drafts.new ≡ (write_rule at.entry.limits.size (length log.old) (state_of (books_at at.entry) [] drafts.old) handle cell value.now).after.drafts }
+    ensures log { log.new ≡ log_after at.entry.records (write_rule at.entry.limits.size (length log.old) (state_of (books_at at.entry) [] drafts.old) handle cell value.now).entry log.old }
 {
     match asked::of_write(at, handle, cell, value.len(), drafts.len(), log.len()) {
         Err(refusal) => record::refused(refusal, at),
@@ -45,8 +45,8 @@ pub fn read(
     drafts: &[u8],
     log: &mut [u8],
 ) -> Step
-    ensures step { in_numbers result ≡ step_of (read_rule at.limits.size (length log.old) (state_of (books_at at) table.now drafts.now) handle cell) }
-    ensures log { log.new ≡ log_after at.records (read_rule at.limits.size (length log.old) (state_of (books_at at) table.now drafts.now) handle cell).entry log.old }
+    ensures step { in_numbers result ≡ step_of (read_rule at.entry.limits.size (length log.old) (state_of (books_at at.entry) table.now drafts.now) handle cell) }
+    ensures log { log.new ≡ log_after at.entry.records (read_rule at.entry.limits.size (length log.old) (state_of (books_at at.entry) table.now drafts.now) handle cell).entry log.old }
 {
     match asked::of_read(at, handle, cell, table.len(), drafts.len(), log.len()) {
         Err(refusal) => record::refused(refusal, at),

@@ -12,8 +12,8 @@ use rules::Controller;
 
 // Begin takes the lowest free place and answers the handle.
 pub fn begin(at: Controller, log: &mut [u8]) -> Step
-    ensures step { in_numbers result ≡ step_of (begin_rule at.limits.size (length log.old) (state_of (books_at at) [] [])) }
-    ensures log { log.new ≡ log_after at.records (begin_rule at.limits.size (length log.old) (state_of (books_at at) [] [])).entry log.old }
+    ensures step { in_numbers result ≡ step_of (begin_rule at.entry.limits.size (length log.old) (state_of (books_at at.entry) [] [])) }
+    ensures log { log.new ≡ log_after at.entry.records (begin_rule at.entry.limits.size (length log.old) (state_of (books_at at.entry) [] [])).entry log.old }
 {
     match asked::of_begin(at, log.len()) {
         Err(refusal) => record::refused(refusal, at),
@@ -23,9 +23,9 @@ pub fn begin(at: Controller, log: &mut [u8]) -> Step
 
 // Post takes the lowest free place, writes the table and answers the handle.
 pub fn post(at: Controller, cell: u32, value: &[u8], table: &mut [u8], log: &mut [u8]) -> Step
-    ensures step { in_numbers result ≡ step_of (post_rule at.limits.size (length log.old) (state_of (books_at at) table.old []) cell value.now) }
-    ensures table { table.new ≡ (post_rule at.limits.size (length log.old) (state_of (books_at at) table.old []) cell value.now).after.table }
-    ensures log { log.new ≡ log_after at.records (post_rule at.limits.size (length log.old) (state_of (books_at at) table.old []) cell value.now).entry log.old }
+    ensures step { in_numbers result ≡ step_of (post_rule at.entry.limits.size (length log.old) (state_of (books_at at.entry) table.old []) cell value.now) }
+    ensures table { table.new ≡ (post_rule at.entry.limits.size (length log.old) (state_of (books_at at.entry) table.old []) cell value.now).after.table }
+    ensures log { log.new ≡ log_after at.entry.records (post_rule at.entry.limits.size (length log.old) (state_of (books_at at.entry) table.old []) cell value.now).entry log.old }
 {
     match asked::of_post(at, cell, value.len(), table.len(), log.len()) {
         Err(refusal) => record::refused(refusal, at),

@@ -29,8 +29,8 @@ fn is_held(status: u8) -> bool
 
 // All columns, in one pass.
 #[tactic(auto, using(basics::proofs::Filled::filled_none, basics::proofs::Filled::filled_set, basics::proofs::Below::count_none, basics::proofs::Below::count_passes, basics::proofs::Below::count_skips, basics::proofs::Below::count_at_most), unfolding(rules::specs::Books::live_count))]
-pub fn columns_of(places: [Place; 32], z: Limits) -> Columns
-    ensures { Columned z.size (of_places places) result }
+pub fn columns_of(places: &[Place; 32], z: Limits) -> Columns
+    ensures { Columned z.size (of_places places.now) result }
 {
     let mut live: u32 = 0;
     let mut held = [false; 64];
@@ -58,8 +58,8 @@ pub fn columns_of(places: [Place; 32], z: Limits) -> Columns
 
 // The begin records.
 #[tactic(auto, using(basics::proofs::Filled::filled_none, basics::proofs::Filled::filled_set, basics::proofs::Filled::filled_whole))]
-pub fn begins_of(places: [Place; 32], z: Limits) -> [u16; 32]
-    ensures { result ≡ filled_below (λ i. (place_at (of_places places) i).begin) 0 z.size.places width }
+pub fn begins_of(places: &[Place; 32], z: Limits) -> [u16; 32]
+    ensures { result ≡ filled_below (λ i. (place_at (of_places places.now) i).begin) 0 z.size.places width }
 {
     let mut begins: [u16; 32] = [0; 32];
     for i in 0..z.size.places {

@@ -4,4 +4,4 @@ use Rattle.judge.proofs.Given.{verdict_right}
 use Rattle.judge.proofs.verdict.is_conflict.Goals as goal
 
 pub returns : goal.returns
-returns c = verdict_right c.args.z.size c.args.z.within (of_places c.args.places) c.args.i c.company_of-present.result c.square-rows.result c.company_of-present.ensures c.square-rows.ensures c.contains_cycle.result c.contains_cycle.ensures
+returns c = verdict_right c.args.z.size c.args.z.within (of_places c.args.places.now) c.args.i c.company_of-present.result c.square-rows.result c.company_of-present.ensures c.square-rows.ensures c.contains_cycle.result c.contains_cycle.ensures

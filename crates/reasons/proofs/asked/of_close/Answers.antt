@@ -8,4 +8,4 @@ use Rattle.reasons.proofs.asked.of_close.Goals as goal
 
 pub returns : goal.returns
 unfolding first_reason soundness_reason close_reasons
-returns c = let at = c.args.at in grind (arith, common_steps, some_live at.limits.size at.records at.places)
+returns c = let at = c.args.at in grind (arith, common_steps, some_live at.limits.size at.records at.places.now)

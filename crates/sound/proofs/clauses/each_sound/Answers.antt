@@ -11,4 +11,4 @@ pub returns-then-not-is_place_sound : goal.returns-then-not-is_place_sound
 returns-then-not-is_place_sound c =
     let s = c.args.at in
     let answer = c.is_place_sound in
-    answer_fails (λ k. place_sound s.limits.size s.records (place_at (of_places s.places) k)) s.limits.size.places c.loop-i.i c.loop-i-test.true answer.result answer.ensures (ap not c.if-not-is_place_sound.true)
+    answer_fails (λ k. place_sound s.limits.size s.records (place_at (of_places s.places.now) k)) s.limits.size.places c.loop-i.i c.loop-i-test.true answer.result answer.ensures (ap not c.if-not-is_place_sound.true)

@@ -8,4 +8,4 @@ use Rattle.rules.specs.Sound.{place_sound}
 use Rattle.sound.proofs.clauses.each_sound.Given as goal
 
 abbrev pub invariant-loop-i : goal.invariant-loop-i
-invariant-loop-i l = all_below (λ k. place_sound l.at.limits.size l.at.records (place_at (of_places l.at.places) k)) l.i ≡ true
+invariant-loop-i l = all_below (λ k. place_sound l.at.limits.size l.at.records (place_at (of_places l.at.places.now) k)) l.i ≡ true

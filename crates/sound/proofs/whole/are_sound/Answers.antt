@@ -50,16 +50,16 @@ module _ (z : Size) (fits : z.places ≤ width) (records : ℕ) (places : List P
 pub overflow_add-at : goal.overflow_add-at
 overflow_add-at c =
     let a = c.args in
-    omega (arith, counted_live a.at.limits.size a.at.limits.within.places a.at.records a.at.places _ c.columns_of-seen.ensures, live_at_most a.at.limits.size (books_of a.at.records a.at.places))
+    omega (arith, counted_live a.at.limits.size a.at.limits.within.places a.at.records a.at.places.now _ c.columns_of-seen.ensures, live_at_most a.at.limits.size (books_of a.at.records a.at.places.now))
 
 pub returns-then-are_apart : goal.returns-then-are_apart
 returns-then-are_apart c =
     let a = c.args in
-    let says = asked_of_columns a.at.limits.size a.at.limits.within.places a.at.records a.at.places _ c.columns_of-seen.ensures in
+    let says = asked_of_columns a.at.limits.size a.at.limits.within.places a.at.records a.at.places.now _ c.columns_of-seen.ensures in
     grind (arith, nat_tests)
 
 pub returns-else-are_apart : goal.returns-else-are_apart
 returns-else-are_apart c =
     let a = c.args in
-    let says = asked_of_columns a.at.limits.size a.at.limits.within.places a.at.records a.at.places _ c.columns_of-seen.ensures in
+    let says = asked_of_columns a.at.limits.size a.at.limits.within.places a.at.records a.at.places.now _ c.columns_of-seen.ensures in
     grind (arith, nat_tests)

@@ -13,6 +13,6 @@ pub returns : goal.returns
 unfolding live_count
 returns c =
     let s = c.args in
-    let wide : length s.places ≡ width = c.well_formed.0.1.0.1 in
-    let counted : c.count.result ≡ count_by is_live (take s.z.size.places s.places) = search rules in
-    counted ∙ count_slice is_live s.places no_place s.z.size.places (omega arith)
+    let wide : length s.places.now ≡ width = search rules in
+    let counted : c.count.result ≡ count_by is_live (take s.z.size.places s.places.now) = search rules in
+    counted ∙ count_slice is_live s.places.now no_place s.z.size.places (omega arith)

@@ -11,6 +11,6 @@ use Rattle.survey.proofs.search.lowest_free_of.Goals as goal
 pub returns : goal.returns
 unfolding lowest_free
 returns c =
-    let b = of_places c.args.places in
+    let b = of_places c.args.places.now in
     first_found (λ k. is_free (place_at b k)) c.args.z.size.places c.find.result
     (first_from_Range _ _ _ c.find.result (λ k. is_free (place_at b k) ≡ true) (λ k. is_free (place_at b k) ≡ false) c.find.ensures.ran (λ x q k. search (rules, tests)) (λ x q k. search (rules, tests)))
