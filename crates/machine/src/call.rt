@@ -54,24 +54,27 @@ pub fn stepped(
     ensures log { log.new ≡ log_after from.records (call_outcome from call value.now table.old drafts.old log.old numbers.old).entry log.old }
     ensures numbers { numbers.new ≡ buffer_after (call_outcome from call value.now table.old drafts.old log.old numbers.old).order numbers.old }
 {
-    match call {
-        Call::Open => Told {
-            number: GRANTED,
-            answer: 0,
-            books: Books::open(),
-        },
-        Call::Begin => Told::from(from.begin(log)),
-        Call::Write { handle, cell } => Told::from(from.write(handle, cell, value, drafts, log)),
-        Call::Read { handle, cell } => Told::from(from.read(handle, cell, table, drafts, log)),
+    let answer = match call {
+        Call::Open => {
+            return Told {
+                number: GRANTED,
+                answer: 0,
+                books: Books::open(),
+            };
+        }
         Call::Show {
             given,
             handle,
             cell,
-        } => looked(from, given, handle, cell, table.len(), drafts.len()),
-        Call::Commit { handle } => Told::from(from.commit(handle, table, drafts, log)),
-        Call::GiveUp { handle } => Told::from(from.give_up(handle, log)),
-        Call::Post { cell } => Told::from(from.post(cell, value, table, log)),
-        Call::Order { handle } => Told::from(from.order(handle, numbers)),
-        Call::Close => Told::from(from.close(log)),
-    }
+        } => return looked(from, given, handle, cell, table.len(), drafts.len()),
+        Call::Begin => from.begin(log),
+        Call::Write { handle, cell } => from.write(handle, cell, value, drafts, log),
+        Call::Read { handle, cell } => from.read(handle, cell, table, drafts, log),
+        Call::Commit { handle } => from.commit(handle, table, drafts, log),
+        Call::GiveUp { handle } => from.give_up(handle, log),
+        Call::Post { cell } => from.post(cell, value, table, log),
+        Call::Order { handle } => from.order(handle, numbers),
+        Call::Close => from.close(log),
+    };
+    Told::from(answer)
 }

@@ -9,9 +9,10 @@ use Rattle.rules.specs.Steps.{open_rule}
 use Rattle.rules.specs.Calls.{issued}
 use Rattle.rules.specs.Calls as rule
 use Rattle.rules.proofs.Calls.Unlent.{unlent}
-use Rattle.machine.specs.View.{view}
+use Rattle.machine.specs.View.{view, in_numbers}
 use Rattle.machine.proofs.Issuing.{issued_as, open_left, neither_left, write_left, read_left, show_left, commit_left, post_left, order_left}
 use Rattle.machine.proofs.call.stepped.Goals as goal
+use Rattle.machine.proofs.call.stepped.Goals.{in-Begin, in-Write, in-Read, in-Commit, in-GiveUp, in-Post, in-Order, in-Close}
 
 pub returns-in-Open : goal.returns-in-Open
 unfolding open_rule
@@ -20,59 +21,47 @@ returns-in-Open c =
     issued_as a.from a.table.now a.drafts.now a.log.now a.numbers.now a.call _ a.value.now c.in-Open.is
     (open_left a.from a.table.now a.drafts.now a.log.now a.numbers.now (ap (λ b. record { number = granted; answer = 0; books = b }) c.open.ensures))
 
-pub returns-in-Begin : goal.returns-in-Begin
-unfolding issued
-returns-in-Begin c =
-    let a = c.args in
-    issued_as a.from a.table.now a.drafts.now a.log.now a.numbers.now a.call _ a.value.now c.in-Begin.is
-    (neither_left a.from a.table.now a.drafts.now a.log.now a.numbers.now rule.Begin refl (unlent.of_begin yard (length a.log.now) (state_of (view a.from) a.table.now a.drafts.now)) (c.from.ensures ∙ c.begin.ensures.answer, c.begin.ensures.log))
-
-pub returns-in-Write : goal.returns-in-Write
-returns-in-Write c =
-    let a = c.args in
-    issued_as a.from a.table.now a.drafts.now a.log.now a.numbers.now a.call _ a.value.now c.in-Write.is
-    (write_left a.from a.table.now a.drafts.now a.log.now a.numbers.now c.in-Write.handle c.in-Write.cell a.value.now (c.from-in-Write.ensures ∙ c.write.ensures.answer, (c.write.ensures.drafts, c.write.ensures.log)))
-
-pub returns-in-Read : goal.returns-in-Read
-returns-in-Read c =
-    let a = c.args in
-    issued_as a.from a.table.now a.drafts.now a.log.now a.numbers.now a.call _ a.value.now c.in-Read.is
-    (read_left a.from a.table.now a.drafts.now a.log.now a.numbers.now c.in-Read.handle c.in-Read.cell (c.from-in-Read.ensures ∙ c.read.ensures.answer, c.read.ensures.log))
-
 pub returns-in-Show : goal.returns-in-Show
 returns-in-Show c =
     let a = c.args in
     issued_as a.from a.table.now a.drafts.now a.log.now a.numbers.now a.call _ a.value.now c.in-Show.is
     (show_left a.from a.table.now a.drafts.now a.log.now a.numbers.now c.in-Show.given c.in-Show.handle c.in-Show.cell c.looked.ensures)
 
-pub returns-in-Commit : goal.returns-in-Commit
-returns-in-Commit c =
-    let a = c.args in
-    issued_as a.from a.table.now a.drafts.now a.log.now a.numbers.now a.call _ a.value.now c.in-Commit.is
-    (commit_left a.from a.table.now a.drafts.now a.log.now a.numbers.now c.in-Commit.handle (c.from-in-Commit.ensures ∙ c.commit.ensures.answer, (c.commit.ensures.table, c.commit.ensures.log)))
-
-pub returns-in-GiveUp : goal.returns-in-GiveUp
+pub returns : goal.returns
 unfolding issued
-returns-in-GiveUp c =
+returns c =
     let a = c.args in
-    issued_as a.from a.table.now a.drafts.now a.log.now a.numbers.now a.call _ a.value.now c.in-GiveUp.is
-    (neither_left a.from a.table.now a.drafts.now a.log.now a.numbers.now (rule.GiveUp c.in-GiveUp.handle) refl (unlent.of_give_up yard (length a.log.now) (state_of (view a.from) a.table.now a.drafts.now) c.in-GiveUp.handle) (c.from-in-GiveUp.ensures ∙ c.give_up.ensures.answer, c.give_up.ensures.log))
-
-pub returns-in-Post : goal.returns-in-Post
-returns-in-Post c =
-    let a = c.args in
-    issued_as a.from a.table.now a.drafts.now a.log.now a.numbers.now a.call _ a.value.now c.in-Post.is
-    (post_left a.from a.table.now a.drafts.now a.log.now a.numbers.now c.in-Post.cell a.value.now (c.from-in-Post.ensures ∙ c.post.ensures.answer, (c.post.ensures.table, c.post.ensures.log)))
-
-pub returns-in-Order : goal.returns-in-Order
-returns-in-Order c =
-    let a = c.args in
-    issued_as a.from a.table.now a.drafts.now a.log.now a.numbers.now a.call _ a.value.now c.in-Order.is
-    (order_left a.from a.table.now a.drafts.now a.log.now a.numbers.now c.in-Order.handle (c.from-in-Order.ensures ∙ c.order.ensures.answer, c.order.ensures.numbers))
-
-pub returns-in-Close : goal.returns-in-Close
-unfolding issued
-returns-in-Close c =
-    let a = c.args in
-    issued_as a.from a.table.now a.drafts.now a.log.now a.numbers.now a.call _ a.value.now c.in-Close.is
-    (neither_left a.from a.table.now a.drafts.now a.log.now a.numbers.now rule.Close refl (unlent.of_close yard (length a.log.now) (commits_in a.log.now a.from.records) (state_of (view a.from) a.table.now a.drafts.now)) (c.from-in-Close.ensures ∙ c.close.ensures.answer, c.close.ensures.log))
+    elim c.match-call.branch [
+      | in-Begin w ↦
+          rw (w.table-is, w.drafts-is, w.log-is, w.numbers-is)
+          (issued_as a.from a.table.now a.drafts.now a.log.now a.numbers.now a.call _ a.value.now w.in-Begin.is
+          (neither_left a.from a.table.now a.drafts.now a.log.now a.numbers.now rule.Begin refl (unlent.of_begin yard (length a.log.now) (state_of (view a.from) a.table.now a.drafts.now)) (c.from.ensures ∙ ap in_numbers w.answer-is ∙ w.begin-answer.ensures.answer, w.begin-answer.ensures.log)))
+      | in-Write w ↦
+          rw (w.table-is, w.drafts-is, w.log-is, w.numbers-is)
+          (issued_as a.from a.table.now a.drafts.now a.log.now a.numbers.now a.call _ a.value.now w.in-Write.is
+          (write_left a.from a.table.now a.drafts.now a.log.now a.numbers.now w.in-Write.handle w.in-Write.cell a.value.now (c.from.ensures ∙ ap in_numbers w.answer-is ∙ w.write-answer.ensures.answer, (w.write-answer.ensures.drafts, w.write-answer.ensures.log))))
+      | in-Read w ↦
+          rw (w.table-is, w.drafts-is, w.log-is, w.numbers-is)
+          (issued_as a.from a.table.now a.drafts.now a.log.now a.numbers.now a.call _ a.value.now w.in-Read.is
+          (read_left a.from a.table.now a.drafts.now a.log.now a.numbers.now w.in-Read.handle w.in-Read.cell (c.from.ensures ∙ ap in_numbers w.answer-is ∙ w.read-answer.ensures.answer, w.read-answer.ensures.log)))
+      | in-Commit w ↦
+          rw (w.table-is, w.drafts-is, w.log-is, w.numbers-is)
+          (issued_as a.from a.table.now a.drafts.now a.log.now a.numbers.now a.call _ a.value.now w.in-Commit.is
+          (commit_left a.from a.table.now a.drafts.now a.log.now a.numbers.now w.in-Commit.handle (c.from.ensures ∙ ap in_numbers w.answer-is ∙ w.commit-answer.ensures.answer, (w.commit-answer.ensures.table, w.commit-answer.ensures.log))))
+      | in-GiveUp w ↦
+          rw (w.table-is, w.drafts-is, w.log-is, w.numbers-is)
+          (issued_as a.from a.table.now a.drafts.now a.log.now a.numbers.now a.call _ a.value.now w.in-GiveUp.is
+          (neither_left a.from a.table.now a.drafts.now a.log.now a.numbers.now (rule.GiveUp w.in-GiveUp.handle) refl (unlent.of_give_up yard (length a.log.now) (state_of (view a.from) a.table.now a.drafts.now) w.in-GiveUp.handle) (c.from.ensures ∙ ap in_numbers w.answer-is ∙ w.give_up-answer.ensures.answer, w.give_up-answer.ensures.log)))
+      | in-Post w ↦
+          rw (w.table-is, w.drafts-is, w.log-is, w.numbers-is)
+          (issued_as a.from a.table.now a.drafts.now a.log.now a.numbers.now a.call _ a.value.now w.in-Post.is
+          (post_left a.from a.table.now a.drafts.now a.log.now a.numbers.now w.in-Post.cell a.value.now (c.from.ensures ∙ ap in_numbers w.answer-is ∙ w.post-answer.ensures.answer, (w.post-answer.ensures.table, w.post-answer.ensures.log))))
+      | in-Order w ↦
+          rw (w.table-is, w.drafts-is, w.log-is, w.numbers-is)
+          (issued_as a.from a.table.now a.drafts.now a.log.now a.numbers.now a.call _ a.value.now w.in-Order.is
+          (order_left a.from a.table.now a.drafts.now a.log.now a.numbers.now w.in-Order.handle (c.from.ensures ∙ ap in_numbers w.answer-is ∙ w.order-answer.ensures.answer, w.order-answer.ensures.numbers)))
+      | in-Close w ↦
+          rw (w.table-is, w.drafts-is, w.log-is, w.numbers-is)
+          (issued_as a.from a.table.now a.drafts.now a.log.now a.numbers.now a.call _ a.value.now w.in-Close.is
+          (neither_left a.from a.table.now a.drafts.now a.log.now a.numbers.now rule.Close refl (unlent.of_close yard (length a.log.now) (commits_in a.log.now a.from.records) (state_of (view a.from) a.table.now a.drafts.now)) (c.from.ensures ∙ ap in_numbers w.answer-is ∙ w.close-answer.ensures.answer, w.close-answer.ensures.log)))
+    ]

@@ -1,10 +1,10 @@
--- `sound_cells::cells::are_cells_clear` meets its contract. The loop's invariant: the flag says whether all cells passed are clear. Assumes nothing.
+-- `sound_cells::cells::are_clear_below` meets its contract. The loop's invariant: the flag says whether all cells passed are clear. Assumes nothing.
 use mathlib.Core.Path.{◌≡◌}
 use mathlib.Core.Bool.{false, not, ◌&&◌}
 use lib.Dec.{eqb}
 use lib.ListN.{get_or}
 use Rattle.basics.specs.Below.{all_below}
-use Rattle.sound_cells.proofs.cells.are_cells_clear.Given as goal
+use Rattle.sound_cells.proofs.cells.are_clear_below.Given as goal
 
 abbrev pub invariant-loop-c : goal.invariant-loop-c
 invariant-loop-c l =
