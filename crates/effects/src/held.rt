@@ -7,7 +7,7 @@ ghost use Rattle.rules.specs.Judged.{turned_back};
 ghost use Rattle.rules.specs.Steps.{write_of, own_read_of, give_up_of};
 ghost use Rattle.effects.specs.Stepped.{in_numbers, step_of};
 
-use crate::{Step, Transaction, record};
+use crate::{Step, StepOf, Transaction, record};
 use cells::cell;
 use cells::cell::Draft;
 use place::change;
@@ -96,7 +96,7 @@ impl Transaction<'_> {
             c,
             cell::draft_at(drafts, draft),
         );
-        Step {
+        StepOf {
             given: Ok(0),
             records: at.records + 1,
             places: *at.places,

@@ -13,13 +13,16 @@ pub mod whole_day;
 use rules::refusal::Refusal;
 use rules::{Controller, Place};
 
-// What a call comes to, and the books after it: it gives a handle (begin, post), a count (order), else 0, or why it is refused.
+// What a call comes to, whatever it gives, and the books after it.
 #[derive(Clone, Copy)]
-pub struct Step {
-    pub given: Result<u32, Refusal>,
+pub struct StepOf<G> {
+    pub given: G,
     pub records: u16,
     pub places: [Place; 32],
 }
+
+// A call of document 01 gives a handle (begin, post), a count (order), else 0, or why it is refused.
+pub type Step = StepOf<Result<u32, Refusal>>;
 
 // A transaction at its place, of a controller whose log has room for one record more.
 // The promises name the lent slices: so their lengths are asked for by clauses, and by no type.

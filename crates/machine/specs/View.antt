@@ -2,8 +2,7 @@
 use Rattle.machine.specs.declared.books.Books.{Books}
 use Rattle.machine.specs.declared.books.Answer.{Answer}
 use Rattle.machine.specs.declared.books.Told.{Told}
-use Rattle.effects.specs.declared.Step.{Step}
-use Rattle.effects.specs.Stepped.{answer_in}
+use Rattle.effects.specs.Stepped.{Step, answer_in}
 use Rattle.rules.specs.Refusals.{said}
 use Rattle.rules.specs.Books.{Books as RuleBooks, books_of}
 use Rattle.rules.specs.State.{Outcome}
