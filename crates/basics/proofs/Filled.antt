@@ -3,14 +3,15 @@ use Prim.Native.Nat.{ℕ, zero, suc, ◌+◌, ◌<◌, ◌≤◌}
 use mathlib.Core.Path.{◌≡◌, refl, ◌∙◌, ap, sym, subst}
 use mathlib.Core.Logic.{◌≢◌}
 use mathlib.Core.Bool.{cond}
-use mathlib.Core.List.{List, []}
+use mathlib.Core.List.{List, [], map}
 use native.Mathlib.Nat.{not-suc-le-zero, le_antisymm}
 use native.Mathlib.Omega.{arith}
 use lib.Dec.{ltb}
-use lib.ListN.{length, get_or, set, replicate, length-append, length-set, length-replicate, get_or-replicate, get_or-append}
+use lib.ListN.{length, get_or, set, replicate, length-append, length-map, length-set, length-replicate, get_or-replicate, get_or-append}
 use lib.Seq.{get_or_at, ext_get_or, get_or-set_same, get_or-set_other}
 use borrow.Author.Tests.{lt-ltb, le-ltb, ltb-true, ltb-false}
 use Rattle.basics.specs.Below.{filled_below}
+use Rattle.basics.proofs.Elements.{get_or_map_within}
 use Rattle.basics.proofs.Bools.{split, below_more, equal_or_not}
 
 -- the test "below n + 1" away from n
@@ -94,3 +95,9 @@ module _ {ℓ} {A : Type ℓ} (f : ℕ → A) (d : A) (n w : ℕ) {xs : List A} 
   -- the limit is reached
   pub filled_whole : (limit : ℕ) → n ≤ limit → limit ≤ n → xs ≡ filled_below f d limit w
   filled_whole limit h k = subst (λ (m : ℕ). xs ≡ filled_below f d m w) (le_antisymm h k) so_far
+
+-- an array filled from another one, element by element, is its image
+pub filled_map {ℓ κ} : {A : Type ℓ} {B : Type κ} (f : A → B) (xs : List A) (a : A) (d : B) (w : ℕ) → length xs ≡ w → filled_below (λ i. f (get_or xs i a)) d w w ≡ map f xs
+filled_map f xs a d w e =
+    sym (filled_is (λ i. f (get_or xs i a)) d w w (map f xs) (length-map xs f ∙ e) λ i h.
+    get_or_map_within f xs i a d (subst (λ (k : ℕ). i < k) (sym e) h) ∙ rw (lt-ltb i w h))

@@ -54,6 +54,13 @@ unfolding first_reason
 none_after r later positive e =
     split r.applies (λ t. let none : r.number ≡ 0 = rw t at e in absurd (omega arith)) (λ f. (f, rw f at e))
 
+-- a run of reasons that has a number other than 0 gives it
+pub run_first : (run later : List Reason) {n : ℕ} → n ≡ first_reason run → n ≢ granted → n ≡ first_reason (run ++ later)
+unfolding first_reason
+run_first [] later e other = absurd (other e)
+run_first (r ∷ rest) later e other =
+    split r.applies (λ t. rw t (rw t at e)) (λ f. rw f (run_first rest later (rw f at e) other))
+
 -- none of two lists of reasons applies: none of the first and none of the second
 pub none_of_both : (some later : List Reason) → all_in (λ r. ltb 0 r.number) some ≡ true → first_reason (some ++ later) ≡ granted
     → (first_reason some ≡ granted) × (first_reason later ≡ granted)
