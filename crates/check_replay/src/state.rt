@@ -18,7 +18,7 @@ pub struct Listed {
 // By place: the transaction that holds it or held it last, 0 at first. By position in the list: what is kept of the one listed there. By cell: the
 // record that has the value last committed to it by a listed one, none for the opening value. And the moment of the named transaction so
 // far, and whether somebody who is not listed has committed.
-#[derive(Drop)]
+#[derive(Clone, Copy)]
 pub struct Replay {
     pub holder: [u16; 32],
     pub listed: [Listed; 32],
