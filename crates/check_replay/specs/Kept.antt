@@ -1,5 +1,5 @@
 -- What a replay keeps of a log, and how a record changes it. It is told by positions in the list and by record numbers; no value is copied.
-use Rattle.std.specs.Prelude.{ℕ, Bool, true, false, not, cond, ◌&&◌, ◌||◌, Option, Some, None, is_some, List, [], get_or, replicate, set}
+use Rattle.std.specs.Prelude.{ℕ, Bool, true, false, not, cond, ◌&&◌, ◌||◌, Option, Some, None, is_some, List, [], get_or, replicate, set, eqb}
 use Rattle.basics.specs.Below.{run_below}
 use Rattle.rules.specs.declared.Record.{Record}
 use Rattle.rules.specs.declared.Size.{Size}
@@ -35,12 +35,16 @@ whose_kept holder r n = cond (kind_starts r.kind) n (get_or holder r.place 0)
 abbrev pub holder_after : ℕ → Record → List ℕ → List ℕ
 holder_after n r holder = cond (kind_starts r.kind) (set holder r.place n) holder
 
+-- a record by its number: 0 is none
+abbrev pub record_or_none : ℕ → Option ℕ
+record_or_none n = cond (eqb n 0) None (Some n)
+
 -- record number n, r, of a listed transaction is noted
 unfoldable pub noted : ℕ → Record → Listed → Listed
 noted n r own =
     record {
-      commit = cond (kind_commits r.kind) (Some n) own.commit;
-      wrote = cond (kind_writes r.kind) (set own.wrote r.cell (Some n)) own.wrote;
+      commit = cond (kind_commits r.kind) (record_or_none n) own.commit;
+      wrote = cond (kind_writes r.kind) (set own.wrote r.cell (record_or_none n)) own.wrote;
       read = cond (kind_judged_read r.kind) (set own.read r.cell true) own.read;
     }
 

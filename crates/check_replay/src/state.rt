@@ -2,7 +2,7 @@
 ghost use Rattle.std.specs.Prelude.{◌≡◌, ◌&&◌, ◌<◌, Some, IfSome};
 ghost use Rattle.rules.specs.Sizes.{width};
 ghost use Rattle.rules.specs.Kinds.{kind_sets_moment};
-ghost use Rattle.check_replay.specs.Kept.{nothing, noted, fresh, whose_kept, holder_after, listed_after, laid, table_after, followed};
+ghost use Rattle.check_replay.specs.Kept.{nothing, noted, fresh, whose_kept, holder_after, record_or_none, listed_after, laid, table_after, followed};
 
 use log_bytes::kinds;
 use rules::{Limits, Record};
@@ -44,6 +44,13 @@ impl Met {
     }
 }
 
+// A record by its number: 0 is none.
+fn record_or_none(n: u16) -> Option<u16>
+    ensures { result ≡ record_or_none n }
+{
+    if n == 0 { None } else { Some(n) }
+}
+
 impl Listed {
     // Before its first entry.
     fn nothing() -> Listed
@@ -56,18 +63,19 @@ impl Listed {
         }
     }
 
-    // Record number n, of it, is noted: a commit, a write, a judged read.
+    // Record number n, of it, is noted: a commit, a write, a judged read. A commit or a write of number 0 is none.
     #[tactic(auto, unfolding(crate::specs::Kept::noted))]
     fn note(&mut self, entry: Record, n: u16)
         requires { entry.cell < width }
         ensures { self.new ≡ noted n entry self.old }
     {
         let cell = entry.cell as usize;
+        let numbered = record_or_none(n);
         if kinds::commits(entry.kind) {
-            self.commit = Some(n);
+            self.commit = numbered;
         }
         if kinds::writes(entry.kind) {
-            self.wrote[cell] = Some(n);
+            self.wrote[cell] = numbered;
         }
         if kinds::is_judged_read(entry.kind) {
             self.read[cell] = true;

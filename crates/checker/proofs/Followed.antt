@@ -26,27 +26,36 @@ use Rattle.check_list.specs.Listed.{position}
 use Rattle.check_list.proofs.Positions.{position_found, position_member, position_only}
 use Rattle.check_replay.specs.declared.state.Listed.{Listed}
 use Rattle.check_replay.specs.declared.state.Replay.{Replay}
-use Rattle.check_replay.specs.Kept.{nobody, holder_after, noted, listed_after, laid, table_after, followed}
+use Rattle.check_replay.specs.Kept.{nobody, holder_after, record_or_none, noted, listed_after, laid, table_after, followed}
 use Rattle.check_explain.specs.Explained.{Past}
 use Rattle.checker.proofs.Arrays.{get_or_set_if, length_set_if, set_each_if, laid_length, laid_each, laid_at}
 use Rattle.checker.proofs.KeptMirrored.{latest_write, table_record, record_of, Mirrors, walks_fields, wrote_told}
 
 -- ---- a listed transaction
 
+-- the record that is noted is the one with the number, and one of the first n
+record_noted : (n : ℕ) → record_of n ≡ record_or_none n
+record_noted zero = refl
+record_noted (suc n) = rw (ne_eqb (suc n) 0 (λ e. omega arith)) refl
+
+number_past : (n : ℕ) → IfSome (record_or_none n) (λ w. (1 ≤ w) × (w ≤ n))
+number_past zero = tt
+number_past (suc n) = rw (ne_eqb (suc n) 0 (λ e. omega arith)) (omega arith, le_refl (suc n))
+
 -- what is kept of it, where the record is noted or not
 module _ (n : ℕ) (r : Record) where
   noted_if : Bool → Listed → Listed
   noted_if b own = cond b (noted n r own) own
 
-  commit_noted : (b : Bool) (own : Listed) → (noted_if b own).commit ≡ cond (b && kind_commits r.kind) (Some n) own.commit
+  commit_noted : (b : Bool) (own : Listed) → (noted_if b own).commit ≡ cond (b && kind_commits r.kind) (record_or_none n) own.commit
   unfolding noted_if noted
   commit_noted true own = refl
   commit_noted false own = refl
 
   wrote_noted : (b : Bool) (own : Listed) (c : ℕ) → c < length own.wrote
-      → get_or (noted_if b own).wrote c None ≡ cond (b && (kind_writes r.kind && eqb r.cell c)) (Some n) (get_or own.wrote c None)
+      → get_or (noted_if b own).wrote c None ≡ cond (b && (kind_writes r.kind && eqb r.cell c)) (record_or_none n) (get_or own.wrote c None)
   unfolding noted_if noted
-  wrote_noted true own c h = rw (eqb_swap r.cell c) (get_or_set_if (kind_writes r.kind) own.wrote r.cell c (Some n) None h)
+  wrote_noted true own c h = rw (eqb_swap r.cell c) (get_or_set_if (kind_writes r.kind) own.wrote r.cell c (record_or_none n) None h)
   wrote_noted false own c h = refl
 
   read_noted : (b : Bool) (own : Listed) (c : ℕ) → c < length own.read
@@ -57,7 +66,7 @@ module _ (n : ℕ) (r : Record) where
 
   wrote_length_noted : (b : Bool) (own : Listed) → length (noted_if b own).wrote ≡ length own.wrote
   unfolding noted_if noted
-  wrote_length_noted true own = length_set_if (kind_writes r.kind) own.wrote r.cell (Some n)
+  wrote_length_noted true own = length_set_if (kind_writes r.kind) own.wrote r.cell (record_or_none n)
   wrote_length_noted false own = refl
 
   read_length_noted : (b : Bool) (own : Listed) → length (noted_if b own).read ≡ length own.read
@@ -65,13 +74,13 @@ module _ (n : ℕ) (r : Record) where
   read_length_noted true own = length_set_if (kind_judged_read r.kind) own.read r.cell true
   read_length_noted false own = refl
 
-  past_noted : (own : Listed) → 1 ≤ n → Past n own.wrote → Past n (noted n r own).wrote
+  past_noted : (own : Listed) → Past n own.wrote → Past n (noted n r own).wrote
   unfolding noted
-  past_noted own h k = set_each_if (λ o. IfSome o (λ w. (1 ≤ w) × (w ≤ n))) (kind_writes r.kind) own.wrote r.cell (Some n) None (h, le_refl n) k
+  past_noted own k = set_each_if (λ o. IfSome o (λ w. (1 ≤ w) × (w ≤ n))) (kind_writes r.kind) own.wrote r.cell (record_or_none n) None (number_past n) k
 
 -- a record, none for 0, by a test
-record_if : (b : Bool) (n old : ℕ) → record_of (cond b (suc n) old) ≡ cond b (Some (suc n)) (record_of old)
-record_if true n old = refl
+record_if : (b : Bool) (n old : ℕ) → record_of (cond b n old) ≡ cond b (record_or_none n) (record_of old)
+record_if true n old = record_noted n
 record_if false n old = refl
 
 -- the later of two, where there is one
@@ -198,8 +207,8 @@ module _ (z : Size) (t : ℕ) (order : List ℕ) (within : Within z) (once : dis
       rw (position_only order who i once h)
       (ap (λ own. own.commit) (own_more i h)
       ∙ commit_noted n r (eqb i at) (get_or s.listed i nobody)
-      ∙ ap (cond test (Some n)) (m.commits i h)
-      ∙ sym (record_if test (length day) (commit_of (events day) (get_or order i 0))))
+      ∙ ap (cond test (record_or_none n)) (m.commits i h)
+      ∙ sym (record_if test n (commit_of (events day) (get_or order i 0))))
 
   -- by position and cell
   module _ (i c : ℕ) (h : i < length order) (k : c < z.cells) where
@@ -210,8 +219,8 @@ module _ (z : Size) (t : ℕ) (order : List ℕ) (within : Within z) (once : dis
         rw (position_only order who i once h)
         (ap (λ own. get_or own.wrote c None) (own_more i h)
         ∙ wrote_noted n r (eqb i at) (get_or s.listed i nobody) c (omega (arith, m.wrote_length i (omega arith), within.cells))
-        ∙ ap (cond test (Some n)) (m.writes i c h k)
-        ∙ sym (record_if test (length day) (latest_write (events day) (get_or order i 0) c)))
+        ∙ ap (cond test (record_or_none n)) (m.writes i c h k)
+        ∙ sym (record_if test n (latest_write (events day) (get_or order i 0) c)))
 
     reads_more : get_or (get_or s'.listed i nobody).read c false ≡ read_cell (events (r ∷ day)) (get_or order i 0) c
     unfolding read_cell any_in events event
@@ -259,7 +268,7 @@ module _ (z : Size) (t : ℕ) (order : List ℕ) (within : Within z) (once : dis
       let older : (i : ℕ) → Past n (get_or s.listed i nobody).wrote = λ i. past_more_records (length day) (get_or s.listed i nobody).wrote (m.past.1 i) in
       rw (listed_if listed n r at s.listed)
       (set_each_if (λ own. Past n own.wrote) listed s.listed at (noted n r (get_or s.listed at nobody)) nobody
-      (past_noted n r (get_or s.listed at nobody) (omega arith) (older at)) older)
+      (past_noted n r (get_or s.listed at nobody) (older at)) older)
 
   past_table : Past n s'.table
   unfolding followed
