@@ -8,19 +8,26 @@ use Rattle.rules.specs.Cells.{cell_of}
 use Rattle.rules.specs.Kinds.{kind_judged_read, kind_own_read, kind_sets_moment}
 use Rattle.check_replay.specs.declared.state.Listed.{Listed}
 use Rattle.check_replay.specs.declared.state.Replay.{Replay}
-use Rattle.check_replay.specs.Kept.{nobody}
+use Rattle.check_replay.specs.Kept.{nobody, wrote_in}
 use Rattle.check_later.specs.declared.later.Uses.TheVariants.{Commits}
 use Rattle.check_later.specs.Later.{used_later, overtaken}
 
 -- ---- what is asked
 
 -- a record that is named is one of the first n
+abbrev pub PastRecord : ℕ → Option ℕ → Type 0
+PastRecord n o = IfSome o (λ w. (1 ≤ w) × (w ≤ n))
+
+-- those of an array are, and those of a listed transaction's latest writes
 abbrev pub Past : ℕ → List (Option ℕ) → Type 0
-Past n xs = (i : ℕ) → IfSome (get_or xs i None) (λ w. (1 ≤ w) × (w ≤ n))
+Past n xs = (i : ℕ) → PastRecord n (get_or xs i None)
+
+abbrev pub PastWrites : ℕ → Listed → Type 0
+PastWrites n own = (c : ℕ) → PastRecord n (wrote_in own c)
 
 -- those that are kept are
 abbrev pub PastOnly : ℕ → Replay → Type 0
-PastOnly n s = Past n s.table × ((i : ℕ) → Past n (get_or s.listed i nobody).wrote)
+PastOnly n s = Past n s.table × ((i : ℕ) → PastWrites n (get_or s.listed i nobody))
 
 -- a record's cell is within the arrays, and one of the table's where it is read
 pub record CellRight (z : Size) (r : Record) : Type 0 where
@@ -48,7 +55,7 @@ read_explained opening log s c n at count =
 
 -- an own read: the value is that of the transaction's latest write of the cell
 unfoldable pub own_explained : List ℕ → List ℕ → Listed → ℕ → ℕ → Bool
-own_explained opening log own c n = same (value_at log n) (source opening log (get_or own.wrote c None) c)
+own_explained opening log own c n = same (value_at log n) (source opening log (wrote_in own c) c)
 
 -- record number n, r, of the transaction listed at a position
 unfoldable pub explained : Size → List ℕ → List ℕ → Replay → Record → ℕ → ℕ → ℕ → Bool → Bool

@@ -1,7 +1,7 @@
 // Whether a record of a listed transaction is explained by the list.
 ghost use Rattle.std.specs.Prelude.{◌≡◌, ◌+◌, ◌*◌, ◌<◌, ◌≤◌, length};
 ghost use Rattle.rules.specs.Sizes.{width, cell_bytes, record_bytes, table_bytes};
-ghost use Rattle.check_explain.specs.Explained.{Past, PastOnly, CellRight, read_explained, own_explained, explained};
+ghost use Rattle.check_explain.specs.Explained.{Past, PastWrites, PastOnly, CellRight, read_explained, own_explained, explained};
 
 use crate::values::Values;
 use check_later::later::{self, Uses};
@@ -31,12 +31,12 @@ fn is_read_explained(
 // An own read: the value is that of the transaction's latest write of the cell.
 #[tactic(auto, unfolding(crate::specs::Explained::own_explained))]
 fn is_own_explained(own: &Listed, values: Values, cell: usize, n: u16) -> bool
-    requires past { Past n own.now.wrote }
+    requires past { PastWrites n own.now }
     requires le_n { (1 ≤ n) × (record_bytes * n ≤ length values.log.now) }
     requires cell_within { (cell_bytes * cell + cell_bytes ≤ length values.opening.now) × (cell < width) }
     ensures { result ≡ own_explained values.entry.opening.now values.entry.log.now own.now cell n }
 {
-    values.is_from(n, own.wrote[cell], cell)
+    values.is_from(n, own.wrote_in(cell), cell)
 }
 
 // A record of the transaction listed at a position: nobody who is not listed commits before the moment, nobody listed later comes to stand

@@ -21,7 +21,7 @@ fn has_used(own: &Listed, cell: usize, uses: Uses) -> bool
     ensures { result ≡ used uses cell own.now }
 {
     let reads = uses == Uses::CommitsAndReads;
-    (own.commit.is_some() && own.wrote[cell].is_some()) || (reads && own.read[cell])
+    (own.commit.is_some() && own.wrote_in(cell).is_some()) || (reads && own.read[cell])
 }
 
 // Somebody listed later has committed.
@@ -59,7 +59,7 @@ pub fn is_any_used_later(listed: &[Listed; 32], at: usize, count: usize, z: Limi
     ensures { result ≡ any_used_later z.size listed.now at count }
 {
     for c in 0..z.size.cells {
-        let wrote = listed[at].wrote[c].is_some();
+        let wrote = listed[at].wrote_in(c).is_some();
         if wrote && is_used_later(listed, c, Uses::CommitsAndReads, at, count) {
             return true;
         }

@@ -10,7 +10,7 @@ use Rattle.check_replay.specs.declared.state.Replay.{Replay}
 
 -- of a transaction before its first record
 abbrev pub nothing : Listed
-nothing = record { commit = None; wrote = replicate width None; read = replicate width false }
+nothing = record { commit = None; wrote = replicate width 0; read = replicate width false }
 
 -- of a position past the end of the list
 abbrev pub nobody : Listed
@@ -39,12 +39,16 @@ holder_after n r holder = cond (kind_starts r.kind) (set holder r.place n) holde
 abbrev pub record_or_none : ℕ → Option ℕ
 record_or_none n = cond (eqb n 0) None (Some n)
 
+-- the record of a listed transaction's latest write of the cell
+abbrev pub wrote_in : Listed → ℕ → Option ℕ
+wrote_in own c = record_or_none (get_or own.wrote c 0)
+
 -- record number n, r, of a listed transaction is noted
 unfoldable pub noted : ℕ → Record → Listed → Listed
 noted n r own =
     record {
       commit = cond (kind_commits r.kind) (record_or_none n) own.commit;
-      wrote = cond (kind_writes r.kind) (set own.wrote r.cell (record_or_none n)) own.wrote;
+      wrote = cond (kind_writes r.kind) (set own.wrote r.cell n) own.wrote;
       read = cond (kind_judged_read r.kind) (set own.read r.cell true) own.read;
     }
 
@@ -54,17 +58,17 @@ listed_after n r None listed = listed
 listed_after n r (Some at) listed = set listed at (noted n r (get_or listed at nobody))
 
 -- a cell that a transaction wrote has its value in the table from now on
-abbrev pub laid_cell : List (Option ℕ) → ℕ → List (Option ℕ) → List (Option ℕ)
-laid_cell wrote c table = let w = get_or wrote c None in cond (is_some w) (set table c w) table
+abbrev pub laid_cell : Listed → ℕ → List (Option ℕ) → List (Option ℕ)
+laid_cell own c table = let w = wrote_in own c in cond (is_some w) (set table c w) table
 
 -- and so each of its cells
-unfoldable pub laid : Size → List (Option ℕ) → List (Option ℕ) → List (Option ℕ)
-laid z wrote table = run_below (laid_cell wrote) z.cells table
+unfoldable pub laid : Size → Listed → List (Option ℕ) → List (Option ℕ)
+laid z own table = run_below (laid_cell own) z.cells table
 
 -- the table after a record: where a listed transaction commits, what it wrote is laid over it
 abbrev pub table_after : Size → Record → Option ℕ → List Listed → List (Option ℕ) → List (Option ℕ)
 table_after z r None listed table = table
-table_after z r (Some at) listed table = cond (kind_commits r.kind) (laid z (get_or listed at nobody).wrote table) table
+table_after z r (Some at) listed table = cond (kind_commits r.kind) (laid z (get_or listed at nobody) table) table
 
 -- what record number n, r, leaves: its transaction stands at a position or is not listed, and is the named one or not
 unfoldable pub followed : Size → ℕ → Record → Option ℕ → Bool → Replay → Replay

@@ -2,16 +2,17 @@
 ghost use Rattle.std.specs.Prelude.{◌≡◌, ◌&&◌, ◌<◌, Some, IfSome};
 ghost use Rattle.rules.specs.Sizes.{width};
 ghost use Rattle.rules.specs.Kinds.{kind_sets_moment};
-ghost use Rattle.check_replay.specs.Kept.{nothing, noted, fresh, whose_kept, holder_after, record_or_none, listed_after, laid, table_after, followed};
+ghost use Rattle.check_replay.specs.Kept.{nothing, noted, fresh, whose_kept, holder_after, record_or_none, wrote_in, listed_after, laid, table_after, followed};
 
 use log_bytes::kinds;
 use rules::{Limits, Record};
 
-// Of one listed transaction: its commit record; and by cell, the record of its latest write, and whether it made a judged read.
+// Of one listed transaction: its commit record; and by cell, the record number of its latest write, 0 for none, and whether it made a judged
+// read. A write's number takes two bytes where an Option takes four, so that a call keeps to the stack that the header for C promises.
 #[derive(Clone, Copy)]
 pub struct Listed {
     pub commit: Option<u16>,
-    pub wrote: [Option<u16>; 32],
+    pub wrote: [u16; 32],
     pub read: [bool; 32],
 }
 
@@ -58,7 +59,7 @@ impl Listed {
     {
         Listed {
             commit: None,
-            wrote: [None; 32],
+            wrote: [0; 32],
             read: [false; 32],
         }
     }
@@ -70,27 +71,35 @@ impl Listed {
         ensures { self.new ≡ noted n entry self.old }
     {
         let cell = entry.cell as usize;
-        let numbered = record_or_none(n);
         if kinds::commits(entry.kind) {
-            self.commit = numbered;
+            self.commit = record_or_none(n);
         }
         if kinds::writes(entry.kind) {
-            self.wrote[cell] = numbered;
+            self.wrote[cell] = n;
         }
         if kinds::is_judged_read(entry.kind) {
             self.read[cell] = true;
         }
+    }
+
+    // The record of its latest write of the cell.
+    pub fn wrote_in(&self, cell: usize) -> Option<u16>
+        requires { cell < width }
+        ensures { result ≡ wrote_in self.now cell }
+    {
+        record_or_none(self.wrote[cell])
     }
 }
 
 // Each cell that a transaction wrote has its value in the table from now on.
 #[tactic(auto, using(basics::proofs::Below::run_none, basics::proofs::Below::run_more), unfolding(crate::specs::Kept::laid))]
 fn lay(table: &mut [Option<u16>; 32], own: &Listed, z: Limits)
-    ensures { table.new ≡ laid z.size own.now.wrote table.old }
+    ensures { table.new ≡ laid z.size own.now table.old }
 {
     for c in 0..z.size.cells {
-        if own.wrote[c].is_some() {
-            table[c] = own.wrote[c];
+        let wrote = own.wrote_in(c);
+        if wrote.is_some() {
+            table[c] = wrote;
         }
     }
 }

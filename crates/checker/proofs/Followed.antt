@@ -9,7 +9,7 @@ use lib.ListN.{length, get_or, set}
 use lib.Seq.{get_or-set_same, get_or-set_other}
 use lib.Dec.{ltb, eqb}
 use borrow.Author.Tests.{eqb-true, ne_eqb, ltb-true, lt-ltb}
-use Rattle.std.proofs.Common.{Option, Some, None, is_some, IfSome}
+use Rattle.std.proofs.Common.{Option, Some, None, is_some}
 use Rattle.std.proofs.lemmas.Option.{IfSome_then}
 use Rattle.basics.specs.Lists.{any_in, distinct}
 use Rattle.basics.proofs.Bools.{split, eqb_swap, and_right, and_fails_right, cond_or}
@@ -26,8 +26,9 @@ use Rattle.check_list.specs.Listed.{position}
 use Rattle.check_list.proofs.Positions.{position_found, position_member, position_only}
 use Rattle.check_replay.specs.declared.state.Listed.{Listed}
 use Rattle.check_replay.specs.declared.state.Replay.{Replay}
-use Rattle.check_replay.specs.Kept.{nobody, holder_after, record_or_none, noted, listed_after, laid, table_after, followed}
-use Rattle.check_explain.specs.Explained.{Past}
+use Rattle.check_replay.specs.Kept.{nobody, holder_after, record_or_none, wrote_in, noted, listed_after, laid, table_after, followed}
+use Rattle.check_replay.proofs.Writes.{noted_wrote}
+use Rattle.check_explain.specs.Explained.{Past, PastRecord, PastWrites}
 use Rattle.checker.proofs.Arrays.{get_or_set_if, length_set_if, set_each_if, laid_length, laid_each, laid_at}
 use Rattle.checker.proofs.KeptMirrored.{latest_write, table_record, record_of, Mirrors, walks_fields, wrote_told}
 
@@ -38,7 +39,7 @@ record_noted : (n : ℕ) → record_of n ≡ record_or_none n
 record_noted zero = refl
 record_noted (suc n) = rw (ne_eqb (suc n) 0 (λ e. omega arith)) refl
 
-number_past : (n : ℕ) → IfSome (record_or_none n) (λ w. (1 ≤ w) × (w ≤ n))
+number_past : (n : ℕ) → PastRecord n (record_or_none n)
 number_past zero = tt
 number_past (suc n) = rw (ne_eqb (suc n) 0 (λ e. omega arith)) (omega arith, le_refl (suc n))
 
@@ -53,9 +54,9 @@ module _ (n : ℕ) (r : Record) where
   commit_noted false own = refl
 
   wrote_noted : (b : Bool) (own : Listed) (c : ℕ) → c < length own.wrote
-      → get_or (noted_if b own).wrote c None ≡ cond (b && (kind_writes r.kind && eqb r.cell c)) (record_or_none n) (get_or own.wrote c None)
-  unfolding noted_if noted
-  wrote_noted true own c h = rw (eqb_swap r.cell c) (get_or_set_if (kind_writes r.kind) own.wrote r.cell c (record_or_none n) None h)
+      → wrote_in (noted_if b own) c ≡ cond (b && (kind_writes r.kind && eqb r.cell c)) (record_or_none n) (wrote_in own c)
+  unfolding noted_if
+  wrote_noted true own c h = noted_wrote n r own c h
   wrote_noted false own c h = refl
 
   read_noted : (b : Bool) (own : Listed) (c : ℕ) → c < length own.read
@@ -66,7 +67,7 @@ module _ (n : ℕ) (r : Record) where
 
   wrote_length_noted : (b : Bool) (own : Listed) → length (noted_if b own).wrote ≡ length own.wrote
   unfolding noted_if noted
-  wrote_length_noted true own = length_set_if (kind_writes r.kind) own.wrote r.cell (record_or_none n)
+  wrote_length_noted true own = length_set_if (kind_writes r.kind) own.wrote r.cell n
   wrote_length_noted false own = refl
 
   read_length_noted : (b : Bool) (own : Listed) → length (noted_if b own).read ≡ length own.read
@@ -74,9 +75,9 @@ module _ (n : ℕ) (r : Record) where
   read_length_noted true own = length_set_if (kind_judged_read r.kind) own.read r.cell true
   read_length_noted false own = refl
 
-  past_noted : (own : Listed) → Past n own.wrote → Past n (noted n r own).wrote
+  past_noted : (own : Listed) → PastWrites n own → PastWrites n (noted n r own)
   unfolding noted
-  past_noted own k = set_each_if (λ o. IfSome o (λ w. (1 ≤ w) × (w ≤ n))) (kind_writes r.kind) own.wrote r.cell (record_or_none n) None (number_past n) k
+  past_noted own k = set_each_if (λ w. PastRecord n (record_or_none w)) (kind_writes r.kind) own.wrote r.cell n 0 (number_past n) k
 
 -- a record, none for 0, by a test
 record_if : (b : Bool) (n old : ℕ) → record_of (cond b n old) ≡ cond b (record_or_none n) (record_of old)
@@ -99,7 +100,7 @@ listed_if true n r at listed = refl
 listed_if false n r at listed = refl
 
 table_if : (b : Bool) (z : Size) (r : Record) (at : ℕ) (listed : List Listed) (table : List (Option ℕ))
-    → table_after z r (cond b (Some at) None) listed table ≡ cond (b && kind_commits r.kind) (laid z (get_or listed at nobody).wrote table) table
+    → table_after z r (cond b (Some at) None) listed table ≡ cond (b && kind_commits r.kind) (laid z (get_or listed at nobody) table) table
 table_if true z r at listed table = refl
 table_if false z r at listed table = refl
 
@@ -111,17 +112,17 @@ laid_or true true wrote after table c last old h k = h refl
 laid_or true false wrote after table c last old h k = k
 laid_or false commits wrote after table c last old h k = k
 
-length_laid_if : (b : Bool) (z : Size) (wrote table : List (Option ℕ)) → length (cond b (laid z wrote table) table) ≡ length table
-length_laid_if true z wrote table = laid_length wrote z table
-length_laid_if false z wrote table = refl
+length_laid_if : (b : Bool) (z : Size) (own : Listed) (table : List (Option ℕ)) → length (cond b (laid z own table) table) ≡ length table
+length_laid_if true z own table = laid_length own z table
+length_laid_if false z own table = refl
 
-past_laid_if : (b : Bool) (n : ℕ) (z : Size) (wrote table : List (Option ℕ)) → Past n wrote → Past n table → Past n (cond b (laid z wrote table) table)
-past_laid_if true n z wrote table h k = laid_each wrote z table (λ o. IfSome o (λ w. (1 ≤ w) × (w ≤ n))) h k
-past_laid_if false n z wrote table h k = k
+past_laid_if : (b : Bool) (n : ℕ) (z : Size) (own : Listed) (table : List (Option ℕ)) → PastWrites n own → Past n table → Past n (cond b (laid z own table) table)
+past_laid_if true n z own table h k = laid_each own z table (PastRecord n) h k
+past_laid_if false n z own table h k = k
 
 -- the records of a shorter day are those of a longer
-past_more_records : (n : ℕ) (xs : List (Option ℕ)) → Past n xs → Past (suc n) xs
-past_more_records n xs h i = IfSome_then (get_or xs i None) (h i) (λ w k. (k.0, omega arith))
+past_longer : (n : ℕ) (o : Option ℕ) → PastRecord n o → PastRecord (suc n) o
+past_longer n o h = IfSome_then o h (λ w k. (k.0, omega arith))
 
 -- ---- one record more
 
@@ -212,12 +213,12 @@ module _ (z : Size) (t : ℕ) (order : List ℕ) (within : Within z) (once : dis
 
   -- by position and cell
   module _ (i c : ℕ) (h : i < length order) (k : c < z.cells) where
-    writes_more : get_or (get_or s'.listed i nobody).wrote c None ≡ record_of (latest_write (events (r ∷ day)) (get_or order i 0) c)
+    writes_more : wrote_in (get_or s'.listed i nobody) c ≡ record_of (latest_write (events (r ∷ day)) (get_or order i 0) c)
     unfolding latest_write latest events event
     writes_more =
         let test = eqb i at && (kind_writes r.kind && eqb r.cell c) in
         rw (position_only order who i once h)
-        (ap (λ own. get_or own.wrote c None) (own_more i h)
+        (ap (λ own. wrote_in own c) (own_more i h)
         ∙ wrote_noted n r (eqb i at) (get_or s.listed i nobody) c (omega (arith, m.wrote_length i (omega arith), within.cells))
         ∙ ap (cond test (record_or_none n)) (m.writes i c h k)
         ∙ sym (record_if test n (latest_write (events day) (get_or order i 0) c)))
@@ -238,19 +239,19 @@ module _ (z : Size) (t : ℕ) (order : List ℕ) (within : Within z) (once : dis
   tables_more c h =
       rw (← position_member order who)
       (ap (λ table. get_or table c None) (table_if listed z r at s'.listed s.table)
-      ∙ laid_or listed (kind_commits r.kind) (wrote_cell (events (r ∷ day)) who c) (laid z (get_or s'.listed at nobody).wrote s.table) s.table c
+      ∙ laid_or listed (kind_commits r.kind) (wrote_cell (events (r ∷ day)) who c) (laid z (get_or s'.listed at nobody) s.table) s.table c
       (latest_write (events (r ∷ day)) who c) (table_record order (events day) c) (λ l. committing (ltb-true at (length order) l)) (m.tables c h))
     where
       committing : at < length order
-          → get_or (laid z (get_or s'.listed at nobody).wrote s.table) c None
+          → get_or (laid z (get_or s'.listed at nobody) s.table) c None
           ≡ record_of (cond (wrote_cell (events (r ∷ day)) who c) (latest_write (events (r ∷ day)) who c) (table_record order (events day) c))
       committing l =
           let last = latest_write (events (r ∷ day)) who c in
           let old = table_record order (events day) c in
-          let wrote = (get_or s'.listed at nobody).wrote in
-          let here : get_or wrote c None ≡ record_of last =
+          let own = get_or s'.listed at nobody in
+          let here : wrote_in own c ≡ record_of last =
           writes_more at c l h ∙ ap (λ k. record_of (latest_write (events (r ∷ day)) k c)) (position_found order who l) in
-          laid_at wrote z s.table c h (omega (arith, m.table_length, within.cells))
+          laid_at own z s.table c h (omega (arith, m.table_length, within.cells))
           ∙ ap₂ (λ (x y : Option ℕ). cond (is_some x) x y) here (m.tables c h)
           ∙ record_or last old
           ∙ ap (λ b. record_of (cond b last old)) (sym (wrote_told (r ∷ day) who c))
@@ -262,20 +263,21 @@ module _ (z : Size) (t : ℕ) (order : List ℕ) (within : Within z) (once : dis
       ap₂ (λ (b old : Bool). (kind_commits r.kind && not b) || old) (some_if listed at ∙ position_member order who) m.strangers
 
   -- the records that are named are of the day
-  past_rows : (i : ℕ) → Past n (get_or s'.listed i nobody).wrote
+  past_rows : (i : ℕ) → PastWrites n (get_or s'.listed i nobody)
   unfolding followed
   past_rows =
-      let older : (i : ℕ) → Past n (get_or s.listed i nobody).wrote = λ i. past_more_records (length day) (get_or s.listed i nobody).wrote (m.past.1 i) in
+      let older : (i : ℕ) → PastWrites n (get_or s.listed i nobody) =
+      λ i c. past_longer (length day) (wrote_in (get_or s.listed i nobody) c) (m.past.1 i c) in
       rw (listed_if listed n r at s.listed)
-      (set_each_if (λ own. Past n own.wrote) listed s.listed at (noted n r (get_or s.listed at nobody)) nobody
+      (set_each_if (PastWrites n) listed s.listed at (noted n r (get_or s.listed at nobody)) nobody
       (past_noted n r (get_or s.listed at nobody) (older at)) older)
 
   past_table : Past n s'.table
   unfolding followed
   past_table =
       rw (table_if listed z r at s'.listed s.table)
-      (past_laid_if (listed && kind_commits r.kind) n z (get_or s'.listed at nobody).wrote s.table (past_rows at)
-      (past_more_records (length day) s.table m.past.0))
+      (past_laid_if (listed && kind_commits r.kind) n z (get_or s'.listed at nobody) s.table (past_rows at)
+      (λ c. past_longer (length day) (get_or s.table c None) (m.past.0 c)))
 
   -- what is kept mirrors one record more
   pub mirrors_more : Mirrors z t order (r ∷ day) s'
@@ -297,5 +299,5 @@ module _ (z : Size) (t : ℕ) (order : List ℕ) (within : Within z) (once : dis
         read_length = λ i h.
             ap (λ own. length own.read) (row_more i h) ∙ read_length_noted n r (listed && eqb i at) (get_or s.listed i nobody) ∙ m.read_length i h;
         table_length = ap length (table_if listed z r at s'.listed s.table)
-            ∙ length_laid_if (listed && kind_commits r.kind) z (get_or s'.listed at nobody).wrote s.table ∙ m.table_length;
+            ∙ length_laid_if (listed && kind_commits r.kind) z (get_or s'.listed at nobody) s.table ∙ m.table_length;
       }

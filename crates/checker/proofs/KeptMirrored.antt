@@ -9,7 +9,7 @@ use native.Mathlib.Omega.{arith}
 use lib.ListN.{length, get_or, replicate, length-replicate}
 use lib.Dec.{eqb}
 use borrow.Author.Tests.{eqb-true, eqb-false, ne_eqb, not-true}
-use Rattle.std.proofs.Common.{Option, Some, None, is_some, IfSome}
+use Rattle.std.proofs.Common.{Option, Some, None, is_some}
 use Rattle.std.proofs.lemmas.List.{get_or-replicate}
 use Rattle.basics.specs.Lists.{any_in, member}
 use Rattle.basics.proofs.Bools.{split, clash, false_of_not, same_tests, and_left, and_right}
@@ -26,8 +26,9 @@ use Rattle.rules.proofs.Log.LaidOut.{fields_says}
 use Rattle.rules.proofs.Day.Commits.{latest_zero, latest_some}
 use Rattle.check_replay.specs.declared.state.Listed.{Listed}
 use Rattle.check_replay.specs.declared.state.Replay.{Replay}
-use Rattle.check_replay.specs.Kept.{nothing, nobody, fresh, whose_kept}
-use Rattle.check_explain.specs.Explained.{Past, PastOnly}
+use Rattle.check_replay.specs.Kept.{nothing, nobody, wrote_in, fresh, whose_kept}
+use Rattle.check_replay.proofs.Writes.{nothing_wrote}
+use Rattle.check_explain.specs.Explained.{Past, PastRecord, PastWrites, PastOnly}
 
 -- the record of k's latest write of the cell, 0 for none
 unfoldable pub latest_write : List Event → ℕ → ℕ → ℕ
@@ -52,7 +53,7 @@ pub record Mirrors (z : Size) (t : ℕ) (order : List ℕ) (day : List Record) (
   -- by position: commits, writes and judged reads
   pub commits : (i : ℕ) → i < length order → (get_or s.listed i nobody).commit ≡ record_of (commit_of (events day) (get_or order i 0))
   pub writes : (i c : ℕ) → i < length order → c < z.cells
-      → get_or (get_or s.listed i nobody).wrote c None ≡ record_of (latest_write (events day) (get_or order i 0) c)
+      → wrote_in (get_or s.listed i nobody) c ≡ record_of (latest_write (events day) (get_or order i 0) c)
   pub reads : (i c : ℕ) → i < length order → c < z.cells → get_or (get_or s.listed i nobody).read c false ≡ read_cell (events day) (get_or order i 0) c
   -- by cell: the record that has its value
   pub tables : (c : ℕ) → c < z.cells → get_or s.table c None ≡ record_of (table_record order (events day) c)
@@ -81,21 +82,24 @@ mirrors_fresh z t order =
     record {
       holders = λ p h k. absurd (not-suc-le-zero k);
       commits = λ i h. fresh_each (λ own. own.commit ≡ None) refl refl i;
-      writes = λ i c h k. fresh_each (λ own. get_or own.wrote c None ≡ None) refl (get_or_replicate_same width c None) i;
+      writes = λ i c h k. fresh_each (λ own. wrote_in own c ≡ None) refl (nothing_wrote c) i;
       reads = λ i c h k. fresh_each (λ own. get_or own.read c false ≡ false) refl (get_or_replicate_same width c false) i;
       tables = λ c h. get_or_replicate_same width c None;
       at_moment = refl;
       strangers = refl;
-      past = (none_past, λ i. fresh_each (λ own. Past 0 own.wrote) (λ c. tt) none_past i);
+      past = (none_past, λ i. fresh_each (PastWrites 0) (λ c. tt) no_writes_past i);
       holder_length = length-replicate {A = ℕ} width 0;
       listed_length = length-replicate {A = Listed} width nothing;
-      wrote_length = λ i h. ap (λ own. length own.wrote) (fresh_within i h) ∙ length-replicate {A = Option ℕ} width None;
+      wrote_length = λ i h. ap (λ own. length own.wrote) (fresh_within i h) ∙ length-replicate {A = ℕ} width 0;
       read_length = λ i h. ap (λ own. length own.read) (fresh_within i h) ∙ length-replicate {A = Bool} width false;
       table_length = length-replicate {A = Option ℕ} width None;
     }
   where
     none_past : Past 0 (replicate width None)
-    none_past c = get_or_replicate_all (λ o. IfSome o (λ w. (1 ≤ w) × (w ≤ 0))) width c None None tt tt
+    none_past c = get_or_replicate_all (PastRecord 0) width c None None tt tt
+
+    no_writes_past : PastWrites 0 nothing
+    no_writes_past c = rw (nothing_wrote c) tt
 
 -- the fields of the newest record of a day that walks are right
 pub walks_fields : (z : Size) (r : Record) (day : List Record) → walks z (r ∷ day) ≡ true → FieldsRight z r

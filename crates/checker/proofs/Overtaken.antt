@@ -7,7 +7,7 @@ use native.Mathlib.Omega.{arith}
 use lib.ListN.{length, get_or}
 use lib.Dec.{ltb, eqb}
 use borrow.Author.Tests.{eq-eqb, ne_eqb}
-use Rattle.std.proofs.Common.{None, is_some}
+use Rattle.std.proofs.Common.{is_some}
 use Rattle.basics.specs.Below.{any_below}
 use Rattle.basics.specs.Lists.{any_in}
 use Rattle.basics.proofs.Bools.{split, and_or, and_fails_left, and_fails_right}
@@ -23,7 +23,7 @@ use Rattle.rules.proofs.Replay.InTime.{read_cell, committed_cell, arises}
 use Rattle.rules.proofs.Day.Events.{number_bounds, who_bound, whose_starts}
 use Rattle.check_list.specs.Listed.{position}
 use Rattle.check_replay.specs.declared.state.Replay.{Replay}
-use Rattle.check_replay.specs.Kept.{nobody}
+use Rattle.check_replay.specs.Kept.{nobody, wrote_in}
 use Rattle.check_later.specs.declared.later.Uses.{Uses}
 use Rattle.check_later.specs.declared.later.Uses.TheVariants.{Commits, CommitsAndReads}
 use Rattle.check_later.specs.Later.{reads_count, written_used, committed_later, used_later, any_used_later, overtaken}
@@ -64,7 +64,7 @@ module _ (z : Size) (t : ℕ) (order : List ℕ) (day : List Record) (s : Replay
   committed_kept : (i : ℕ) → i < length order → is_some (get_or s.listed i nobody).commit ≡ committed es (get_or order i 0)
   committed_kept i h = ap is_some (m.commits i h) ∙ some_record _ ∙ sym (committed_told day (get_or order i 0))
 
-  wrote_kept : (i c : ℕ) → i < length order → c < z.cells → is_some (get_or (get_or s.listed i nobody).wrote c None) ≡ wrote_cell es (get_or order i 0) c
+  wrote_kept : (i c : ℕ) → i < length order → c < z.cells → is_some (wrote_in (get_or s.listed i nobody) c) ≡ wrote_cell es (get_or order i 0) c
   wrote_kept i c h k = ap is_some (m.writes i c h k) ∙ some_record _ ∙ sym (wrote_told day (get_or order i 0) c)
 
   committed_later_told : committed_later s.listed at (length order) ≡ any_later (committed es)

@@ -24,9 +24,9 @@ use Rattle.rules.proofs.Replay.InTime.{step_right, replays}
 use Rattle.rules.proofs.Log.StandingLog.{length_day_of}
 use Rattle.log_back.proofs.FollowedLog.{walks_first}
 use Rattle.check_replay.specs.declared.state.Replay.{Replay}
-use Rattle.check_replay.specs.Kept.{nobody, fresh, whose_kept, followed}
+use Rattle.check_replay.specs.Kept.{nobody, wrote_in, fresh, whose_kept, followed}
 use Rattle.check_list.specs.Listed.{position, found, all_in_time}
-use Rattle.check_explain.specs.Explained.{Past, PastOnly, CellRight, explained}
+use Rattle.check_explain.specs.Explained.{PastRecord, PastOnly, CellRight, explained}
 use Rattle.checker.proofs.KeptMirrored.{Mirrors, mirrors_fresh, whose_mirrored}
 use Rattle.checker.proofs.Followed.{mirrors_more}
 use Rattle.check_list.proofs.Positions.{position_member, found_told, found_some}
@@ -70,9 +70,8 @@ module _ (z : Size) (opening log : List ℕ) (t : ℕ) (order : List ℕ) where
       pub past_only : PastOnly (n + 1) s
       past_only =
           let few_records = length_day_of log n in
-          let older : (xs : List (Option ℕ)) → Past (length day) xs → Past (n + 1) xs =
-          λ xs h i. IfSome_then (get_or xs i None) (h i) (λ w k. (k.0, omega arith)) in
-          (older s.table turn.mirrors.past.0, λ i. older (get_or s.listed i nobody).wrote (turn.mirrors.past.1 i))
+          let older : (o : Option ℕ) → PastRecord (length day) o → PastRecord (n + 1) o = λ o h. IfSome_then o h (λ w k. (k.0, omega arith)) in
+          (λ c. older (get_or s.table c None) (turn.mirrors.past.0 c), λ i c. older (wrote_in (get_or s.listed i nobody) c) (turn.mirrors.past.1 i c))
 
       -- whose it is
       whose_next : whose_kept s.holder next (n + 1) ≡ whose day next

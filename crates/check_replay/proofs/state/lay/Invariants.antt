@@ -5,4 +5,4 @@ use Rattle.check_replay.specs.Kept.{laid_cell}
 use Rattle.check_replay.proofs.state.lay.Given as goal
 
 abbrev pub invariant-loop-c : goal.invariant-loop-c
-invariant-loop-c l = l.table ≡ run_below (laid_cell l.own.wrote) l.c l.initial.table
+invariant-loop-c l = l.table ≡ run_below (laid_cell l.own) l.c l.initial.table
