@@ -1,5 +1,5 @@
 -- What is proved of the checker's answers: the types of the theorems, to be read without their proofs.
-use Rattle.std.specs.Prelude.{ℕ, Result, ◌≡◌, ◌↔◌, true, List, length}
+use Rattle.std.specs.Prelude.{ℕ, Result, Ok, ◌≡◌, ◌↔◌, true, List, length}
 use Rattle.rules.specs.Sizes.{yard, table_bytes}
 use Rattle.rules.specs.declared.refusal.Refusal.{Refusal}
 use Rattle.rules.specs.Numbers.{granted}
@@ -23,7 +23,10 @@ pub record Accepts (opening log : List ℕ) (begin : ℕ) (list : List ℕ) : Ty
   pub begins : is_transaction (log_events log) begin ≡ true
   pub accepts : accepted yard opening (log_events log) begin list ≡ true
 
--- what `checked` promises of the number r of its answer, of whatever it is given: it is 0 exactly if the list is accepted
-abbrev pub AnswerSaysAccepted : Type 0
-AnswerSaysAccepted =
-    (opening log list : List ℕ) (begin r : ℕ) → r ≡ checked yard opening log begin list → (r ≡ granted) ↔ Accepts opening log begin list
+-- what `checked` promises of its answer, of whatever it is given
+pub record AnswerSaysAccepted : Type 0 where
+  -- of the answer as it is given: nothing refuses exactly if the list is accepted
+  pub of_answer : (opening log list : List ℕ) (begin : ℕ) (r : Result (Unit {0}) Refusal) → said r ≡ checked yard opening log begin list
+      → (r ≡ Ok tt) ↔ Accepts opening log begin list
+  -- of its number r: it is 0 exactly if the list is accepted
+  pub of_number : (opening log list : List ℕ) (begin r : ℕ) → r ≡ checked yard opening log begin list → (r ≡ granted) ↔ Accepts opening log begin list
