@@ -9,19 +9,22 @@ use lib.ListN.{length, take, length-append}
 use lib.Dec.{leb}
 use native.Mathlib.Omega.{arith}
 use borrow.Author.Tests.{le-leb, eq-eqb}
-use Rattle.std.specs.Prelude.{Ok}
+use Rattle.std.specs.Prelude.{Ok, Err}
 use Rattle.basics.specs.Bytes.{part}
 use Rattle.basics.proofs.Bools.{cond_passes}
 use Rattle.basics.proofs.Bytes.{zeros_are_bytes}
 use Rattle.rules.specs.declared.Record.{Record}
 use Rattle.rules.specs.Sizes.{yard, order_numbers, record_bytes}
+use Rattle.rules.specs.declared.refusal.Refusal.TheVariants.{NoOrder}
 use Rattle.rules.specs.Numbers.{granted, lent}
+use Rattle.rules.specs.Refusals.{said}
 use Rattle.rules.specs.Daylog.{decode, commit_total, trailer, standing, records_in, bytes_at, day_of}
 use Rattle.rules.specs.State.{Outcome, log_after, buffer_after}
 use Rattle.rules.specs.Calls.{Order, Close}
 use Rattle.rules.specs.Run.{Machine, outcome, after_call}
 use Rattle.rules.specs.Checker.{checked}
 use Rattle.rules.specs.Runs.{DayStarts, holder, ConflictExactly as RuleExactly}
+use Rattle.rules.proofs.Answered.{number_settles}
 use Rattle.rules.proofs.Books.Shape.{yard_within}
 use Rattle.rules.proofs.Books.SoundnessSays.{sound_says}
 use Rattle.rules.proofs.Calls.Joined.{log_joins_day}
@@ -37,8 +40,9 @@ use Rattle.machine.specs.declared.books.Answer.{Answer}
 use Rattle.machine.specs.View.{view, in_numbers}
 use Rattle.machine.specs.Promises.{order_outcome, close_outcome, LeavesLog, LeavesBuffer}
 use Rattle.checker.specs.Desk.{checked_pairs}
+use Rattle.checker.proofs.Results.{answer_there}
 use Rattle.theorems.specs.Calling.{as_it_stands, with_log, close_called, Known, Lends}
-use Rattle.theorems.specs.Statements.{ReadsBack, GivesOrders, ConflictExactly, MeetsConflict, OfEveryRun}
+use Rattle.theorems.specs.Statements.{log_with, ReadsBack, GivesOrders, ConflictExactly, MeetsConflict, OfEveryRun}
 use Rattle.theorems.proofs.AfterCall.{moved_state}
 use Rattle.theorems.proofs.Following.{machine_known, Follows, called_then, answer_left, log_left, numbers_left, order_all, close_all, adds_no_show, called_number, run_follows}
 
@@ -98,7 +102,8 @@ module _ (k : Known) (follows : Follows k) where
   reads_back =
       let back = stands_right yard _ _ follows.kept.mirror follows.kept.valued.proper in
       record {
-        laid_out = λ r q. q ∙ rw (stands_for, back.0) refl;
+        laid_out = λ r q. number_settles r (Ok tt) (q ∙ rw (stands_for, back.0) refl);
+        laid_out_number = λ r q. q ∙ rw (stands_for, back.0) refl;
         events_back = rw stands_for back.1;
         counted = follows.kept.mirror.counted;
         read_one = λ newer earlier e q r p. p ∙ read_back newer earlier e q;
@@ -147,7 +152,8 @@ module _ (k : Known) (follows : Follows k) where
   unfolding checked_pairs
   gives_orders =
       record {
-        accepted = λ h r numbers left on x q. q ∙ order_accepted h r numbers left on;
+        accepted = λ h r numbers left on x q. number_settles x (Ok tt) (q ∙ order_accepted h r numbers left on);
+        accepted_number = λ h r numbers left on x q. q ∙ order_accepted h r numbers left on;
         accepted_in_pairs = λ h r numbers bytes left on even pairs x q.
             q
             ∙ cond_passes _ lent (eq-eqb (length bytes % 2) 0 even)
@@ -163,7 +169,15 @@ module _ (k : Known) (follows : Follows k) where
   exactly h r o number q e =
       record {
         by_cycle = rw q e.by_cycle;
-        by_lists = rw q (Iff.trans e.by_lists (λ all list x p. p ∙ all list, λ all list. all list _ refl));
+        by_lists =
+            rw q
+            (Iff.trans e.by_lists (
+              λ all list x p. number_settles x (Err NoOrder) (p ∙ all list),
+              λ all list.
+                  let there = answer_there k.opening (log_with k r) list (holder k.day h) in
+                  sym there.1 ∙ ap said (all list there.0 there.1),
+            ));
+        by_numbers = rw q (Iff.trans e.by_lists (λ all list x p. p ∙ all list, λ all list. all list _ refl));
       }
 
   meets_conflict : MeetsConflict k

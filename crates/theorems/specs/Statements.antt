@@ -1,14 +1,16 @@
 -- What is proved of every run of the machine's calls, against the checker's and the layout's own promises: the types of the theorems, to be read
 -- without their proofs. `Run` is any list of calls from an opening or a close, any number of days.
-use Rattle.std.specs.Prelude.{ℕ, ◌+◌, ◌*◌, ◌%◌, ◌≡◌, ◌↔◌, true, List, ◌∷◌, ◌++◌, length, take, Result, Ok}
+use Rattle.std.specs.Prelude.{ℕ, ◌+◌, ◌*◌, ◌%◌, ◌≡◌, ◌↔◌, true, List, ◌∷◌, ◌++◌, length, take, Result, Ok, Err}
 use Rattle.basics.specs.Bytes.{part}
 use Rattle.basics.specs.Walk.{Cycle}
 use Rattle.rules.specs.declared.Record.{Record}
 use Rattle.rules.specs.declared.refusal.Refusal.{Refusal}
+use Rattle.rules.specs.declared.refusal.Refusal.TheVariants.{NoOrder}
 use Rattle.rules.specs.Sizes.{yard, record_bytes}
 use Rattle.rules.specs.Handles.{good_handle}
 use Rattle.rules.specs.Sound.{sound}
 use Rattle.rules.specs.Numbers.{granted, conflict, no_order}
+use Rattle.rules.specs.Refusals.{said}
 use Rattle.rules.specs.Daylog.{standing, records_in, day_of}
 use Rattle.rules.specs.Calls.{Call}
 use Rattle.rules.specs.Day.{events}
@@ -26,8 +28,9 @@ use Rattle.theorems.specs.Calling.{Held, as_it_stands, with_log, Called, Known, 
 -- ---- read-back
 
 pub record ReadsBack (k : Known) : Type 0 where
-  -- the layout's answer for the log as it stands is 0
-  pub laid_out : (r : ℕ) → r ≡ layout_number yard (as_it_stands k.held) → r ≡ granted
+  -- the layout's answer refuses nothing of the log as it stands, so its number is 0
+  pub laid_out : (r : Result (Unit {0}) Refusal) → said r ≡ layout_number yard (as_it_stands k.held) → r ≡ Ok tt
+  pub laid_out_number : (r : ℕ) → r ≡ layout_number yard (as_it_stands k.held) → r ≡ granted
   -- its records are exactly the events of the calls since the opening or the last close, and the books count them
   pub events_back : let log = as_it_stands k.held in day_of log (records_in log) ≡ k.day
   pub counted : k.held.books.records ≡ length k.day
@@ -41,10 +44,14 @@ pub record ReadsBack (k : Known) : Type 0 where
 -- ---- orders
 
 pub record GivesOrders (k : Known) : Type 0 where
-  -- an order that is given, as the lent numbers have it, gets 0 from the checker
+  -- the checker refuses nothing of an order that is given, as the lent numbers have it
   pub accepted : (h : ℕ) (r : Answer) (numbers : List ℕ) → LeavesBuffer k.held.numbers (order_outcome k.held.books h k.held.numbers) r numbers
+      → (in_numbers r).number ≡ granted → (x : Result (Unit {0}) Refusal)
+      → said x ≡ checked yard k.opening (as_it_stands k.held) (holder k.day h) (take (in_numbers r).answer numbers) → x ≡ Ok tt
+  -- so its number is 0
+  pub accepted_number : (h : ℕ) (r : Answer) (numbers : List ℕ) → LeavesBuffer k.held.numbers (order_outcome k.held.books h k.held.numbers) r numbers
       → (in_numbers r).number ≡ granted → (x : ℕ) → x ≡ checked yard k.opening (as_it_stands k.held) (holder k.day h) (take (in_numbers r).answer numbers) → x ≡ granted
-  -- so it does from the duty desk's C entry, as little-endian pairs of bytes
+  -- so it is from the duty desk's C entry, as little-endian pairs of bytes
   pub accepted_in_pairs : (h : ℕ) (r : Answer) (numbers bytes : List ℕ)
       → LeavesBuffer k.held.numbers (order_outcome k.held.books h k.held.numbers) r numbers → (in_numbers r).number ≡ granted → length bytes % 2 ≡ 0
       → pairs_of bytes ≡ take (in_numbers r).answer numbers → (x : ℕ) → x ≡ checked_pairs yard k.opening (as_it_stands k.held) (holder k.day h) bytes
@@ -63,8 +70,11 @@ log_with k r = standing (r ∷ k.day)
 pub record ConflictExactly (k : Known) (h : ℕ) (r : Record) (number : ℕ) : Type 0 where
   -- .. the pairs of the log with the record would contain a cycle
   pub by_cycle : (number ≡ conflict) ↔ Cycle (DayPair yard (events (r ∷ k.day)) (holder k.day h))
-  -- .. the checker would answer 12 for every list
-  pub by_lists : (number ≡ conflict) ↔ ((list : List ℕ) (x : ℕ) → x ≡ checked yard k.opening (log_with k r) (holder k.day h) list → x ≡ no_order)
+  -- .. the checker would refuse every list as no order
+  pub by_lists : (number ≡ conflict)
+      ↔ ((list : List ℕ) (x : Result (Unit {0}) Refusal) → said x ≡ checked yard k.opening (log_with k r) (holder k.day h) list → x ≡ Err NoOrder)
+  -- .. its number would be 12 for every list
+  pub by_numbers : (number ≡ conflict) ↔ ((list : List ℕ) (x : ℕ) → x ≡ checked yard k.opening (log_with k r) (holder k.day h) list → x ≡ no_order)
 
 -- so it is with every judged call that meets none of 1 to 8; which cells a transaction has written is told by what the caller saw of the day
 abbrev pub MeetsConflict : Known → Type 0
