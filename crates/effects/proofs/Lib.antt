@@ -1,2 +1,3 @@
 pub mod ByPlaces
 pub mod Mapped
+pub mod Settled

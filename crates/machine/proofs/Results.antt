@@ -1,27 +1,14 @@
 -- Two results that meet a call's promise are equal, for every public call. Rests on document 01's numbers telling answers apart; a promise settles each
 -- part of a result by an equation. Assumes nothing.
-use Prim.Native.Nat.{ℕ}
 use mathlib.Core.Path.{◌≡◌, sym, ◌∙◌, ap}
-use native.Mathlib.Omega.{arith}
-use Rattle.std.specs.Prelude.{Result, Ok, Err}
-use Rattle.rules.specs.declared.refusal.Refusal.{Refusal}
-use Rattle.rules.specs.Refusals.{said}
-use Rattle.rules.proofs.Answered.{refusal_settled, refuses}
-use Rattle.effects.specs.Stepped.{answer_in}
+use Rattle.effects.proofs.Settled.{given_settled}
 use Rattle.machine.specs.declared.books.Answer.{Answer}
 use Rattle.machine.specs.declared.books.Told.{Told}
 use Rattle.machine.specs.View.{in_numbers}
 use Rattle.machine.specs.Statements.{SameTwo, SameThree, ResultsUnique}
 
--- what is given is settled by its number and by its handle or count
-given_settled : (x y : Result ℕ Refusal) → said x ≡ said y → answer_in x ≡ answer_in y → x ≡ y
-given_settled (Ok a) (Ok b) number answer = ap Ok answer
-given_settled (Ok a) (Err r) number answer = absurd (omega (arith, refuses r))
-given_settled (Err r) (Ok b) number answer = absurd (omega (arith, refuses r))
-given_settled (Err r) (Err r') number answer = ap Err (refusal_settled r r' number)
-
--- so answers that are one in document 01's numbers are one
-told_settles : (r r' : Answer) → in_numbers r ≡ in_numbers r' → r ≡ r'
+-- answers that are one in document 01's numbers are one
+pub told_settles : (r r' : Answer) → in_numbers r ≡ in_numbers r' → r ≡ r'
 told_settles r r' same =
     ap (λ g. record { given = g; books = r.books }) (given_settled r.given r'.given (ap (λ t. t.number) same) (ap (λ t. t.answer) same))
     ∙ ap (λ b. record { given = r'.given; books = b }) (ap (λ t. t.books) same)
