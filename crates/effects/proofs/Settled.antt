@@ -6,8 +6,7 @@ use Rattle.std.specs.Prelude.{Result, Ok, Err}
 use Rattle.rules.specs.declared.refusal.Refusal.{Refusal}
 use Rattle.rules.specs.Refusals.{said}
 use Rattle.rules.proofs.Answered.{refusal_settled, refuses}
-use Rattle.effects.specs.declared.Step.{Step}
-use Rattle.effects.specs.Stepped.{answer_in, in_numbers}
+use Rattle.effects.specs.Stepped.{Step, answer_in, in_numbers}
 
 -- what is given is settled by its number and by its handle or count
 pub given_settled : (x y : Result ℕ Refusal) → said x ≡ said y → answer_in x ≡ answer_in y → x ≡ y
