@@ -41,8 +41,8 @@ fn print_answer<'a>(
             answers::value(&mut text, name, given.map(|_| shown));
         }
         LineKind::Order => {
-            let order = given.map(|count| buffer::front(numbers, count as usize));
-            answers::order(&mut text, name, order);
+            let order = buffer::front(numbers, answer.answer as usize);
+            answers::order(&mut text, name, answer.number, order);
         }
         LineKind::Begin | LineKind::Post => answers::handle(&mut text, name, given),
         _ => answers::number(&mut text, name, answer.number),

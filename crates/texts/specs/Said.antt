@@ -48,10 +48,9 @@ unfoldable pub listed : List ℕ → ℕ → List (List ℕ)
 listed numbers zero = []
 listed numbers (suc n) = listed numbers n ++ then_number (get_or numbers n 0)
 
--- with an order, if it is granted
-unfoldable pub order_line : List ℕ → Result (Bor (List ℕ)) ℕ → List (List ℕ)
-order_line name (Ok order) = number_line name granted ++ listed order.now (length order.now)
-order_line name (Err number) = number_line name number
+-- with an order
+unfoldable pub order_line : List ℕ → ℕ → List ℕ → List (List ℕ)
+order_line name number numbers = number_line name number ++ listed numbers (length numbers)
 
 -- the values of the first cells of a table
 unfoldable pub celled : List ℕ → ℕ → List (List ℕ)

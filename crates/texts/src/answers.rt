@@ -72,18 +72,13 @@ fn list(out: &mut Text, numbers: &[u16])
     }
 }
 
-// A call that answers an order if it is granted, the begin records, else the number of its refusal.
+// A call that answers an order: its number, and the begin records that are given with it, whatever the number.
 #[tactic(auto, using(crate::proofs::Saying::placed_append), unfolding(crate::specs::Said::order_line))]
-pub fn order(out: &mut Text, name: &[u8], given: Result<&[u16], u8>)
-    ensures { Puts out.old out.new (order_line name.now given.entry) }
+pub fn order(out: &mut Text, name: &[u8], number: u8, order: &[u16])
+    ensures { Puts out.old out.new (order_line name.now number order.now) }
 {
-    match given {
-        Ok(order) => {
-            number(out, name, numbers::GRANTED);
-            list(out, order);
-        }
-        Err(refused) => number(out, name, refused),
-    }
+    self::number(out, name, number);
+    list(out, order);
 }
 
 // The values of a table's cells, each after a space.
