@@ -1,7 +1,7 @@
 -- Laws of the words of a line: the first byte of a class from a place on, the start of a word, and the parts that are words.
 -- Assumes nothing.
-use Rattle.std.proofs.Common.{◌≡◌, sym, ◌∙◌, ap, refl, List, [], ℕ, zero, suc, ◌+◌, ◌-◌, ◌≤◌, arith, length, take, drop, length-drop, Some, None, add-one}
-use lib.Dec.{leb}
+use Rattle.std.proofs.Common.{◌≡◌, sym, ◌∙◌, ap, refl, List, [], ℕ, zero, suc, ◌+◌, ◌-◌, ◌≤◌, arith, length, get_or, take, drop, length-drop, Some, None, add-one, false}
+use lib.Dec.{leb, eqb}
 use native.Mathlib.Decide.{dec_lt}
 use lib.ListN.{drop_of_length-le}
 use lib.Seq.{take-nil}
@@ -12,12 +12,12 @@ use Rattle.std.proofs.lemmas.List.{get_or-drop}
 use Rattle.std.proofs.lemmas.List.Sums.{position_or_len_is}
 use Rattle.texts.proofs.Putting.{tail_is}
 use Rattle.basics.specs.Below.{least_below, run_below}
-use Rattle.basics.proofs.Bools.{and_left, and_right}
-use Rattle.basics.proofs.Search.{least_at_most, least_passes, least_fails}
+use Rattle.basics.proofs.Bools.{split, and_left, and_right}
+use Rattle.basics.proofs.Search.{least_at_most, least_passes, least_fails, least_none}
 use Rattle.basics.specs.Bytes.{part}
 use Rattle.script.specs.declared.words.Class.{Class}
-use Rattle.script.specs.declared.words.Class.TheVariants.{Blank, Solid}
-use Rattle.script.specs.Blanks.{is_of, of_class, place_in, first_of, next_start, word_start, word_of}
+use Rattle.script.specs.declared.words.Class.TheVariants.{Blank, Solid, NoByte}
+use Rattle.script.specs.Blanks.{is_blank, class_of, is_of, of_class, place_in, first_of, next_start, word_start, word_of}
 
 -- ---- the first byte of a class from a place on
 
@@ -66,6 +66,18 @@ module _ (line : List ℕ) (at : ℕ) (class : Class) (within : at ≤ length li
         let size = length-drop at line in
         let found = rw (left, tail_is line at (length line) refl) at e in
         grind (arith, nat_tests)
+
+-- no byte is of the class of no byte, so none is found
+no_byte_is : (b : ℕ) → is_of NoByte b ≡ false
+unfolding class_of
+no_byte_is b = split (is_blank b) (λ e. rw e refl) (λ e. rw e (split (eqb b 10) (λ f. rw f refl) (λ f. rw f (split (eqb b 35) (λ g. rw g refl) (λ g. rw g refl)))))
+
+pub no_byte_found : (line : List ℕ) (at : ℕ) (class : Class) → class ≡ NoByte → place_in (length line) (first_of line at class) ≡ None
+unfolding first_of
+no_byte_found line at class e =
+    let end : least_below (of_class line at NoByte) (length line) ≡ length line =
+    least_none (of_class line at NoByte) (length line) (λ j h. rw (no_byte_is (get_or line j 0)) (split (leb at j) (λ k. rw k refl) (λ k. rw k refl))) in
+    rw (e, end) (grind (arith, nat_tests))
 
 pub first_most : (line : List ℕ) (at : ℕ) (class : Class) → first_of line at class ≤ length line
 unfolding first_of

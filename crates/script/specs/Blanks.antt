@@ -3,7 +3,7 @@ use Rattle.std.specs.Prelude.{ℕ, ◌-◌, Bool, cond, ◌&&◌, ◌||◌, List
 use Rattle.basics.specs.Below.{least_below, run_below}
 use Rattle.basics.specs.Bytes.{part}
 use Rattle.script.specs.declared.words.Class.{Class}
-use Rattle.script.specs.declared.words.Class.TheVariants.{Blank, Solid, Comment, LineEnd}
+use Rattle.script.specs.declared.words.Class.TheVariants.{Blank, Solid, Comment, LineEnd, NoByte}
 
 -- a tab, a carriage return and a space are blanks
 abbrev pub is_blank : ℕ → Bool
@@ -19,6 +19,7 @@ number Blank = 0
 number Solid = 1
 number Comment = 2
 number LineEnd = 3
+number NoByte = 4
 
 -- a byte is of a class
 abbrev pub is_of : Class → ℕ → Bool

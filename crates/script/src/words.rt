@@ -1,14 +1,16 @@
 // The words of a line: what stands between blanks. Words are counted from 0.
-ghost use Rattle.std.specs.Prelude.{◌≡◌, ◌<◌, ◌≤◌, length, position, IfSome};
+ghost use Rattle.std.specs.Prelude.{◌≡◌, ◌<◌, ◌≤◌, length, position, IfSome, None};
+ghost use Rattle.script.specs.declared.words.Class.TheVariants.{NoByte};
 ghost use Rattle.script.specs.Blanks.{class_of, is_of, place_in, first_of, next_start, word_start, word_of, content_of};
 
-// The classes of bytes: blanks, bytes of a word, the start of a comment, the end of a line.
+// The classes of bytes: blanks, bytes of a word, the start of a comment, the end of a line; and one of which no byte is.
 #[derive(Clone, Copy, PartialEq, Eq)]
 pub enum Class {
     Blank,
     Solid,
     Comment,
     LineEnd,
+    NoByte,
 }
 
 // A space, a tab and a carriage return are blanks.
@@ -44,6 +46,7 @@ pub fn first_of(line: &[u8], at: usize, class: Class) -> Option<usize>
     requires { at ≤ length line.now }
     ensures found { result ≡ place_in (length line.now) (first_of line.now at class) }
     ensures within { IfSome result (λ i. (at ≤ i) × (i < length line.now)) }
+    ensures no_byte { class ≡ NoByte → result ≡ None }
 {
     Some(at + first(&line[at..], class)?)
 }
