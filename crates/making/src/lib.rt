@@ -4,18 +4,18 @@
 ghost use Rattle.std.specs.Prelude.{◌≡◌, take};
 ghost use Rattle.script.specs.LineCalls.{value_on};
 ghost use Rattle.machine.specs.Promises.{call_outcome, LeavesAll};
-ghost use Rattle.making.specs.Made.{call_for};
+ghost use Rattle.making.specs.Made.{call_for, call_said};
 
 use machine::books::{Books, Told};
 use machine::call;
 use machine::call::Call;
 use script::lines;
-use script::lines::{Line, LineKind};
+use script::lines::{Line, LineKind, Said};
 
 // The machine's call for a line: a post names a cell; every other call that has a number names a handle first, and then a cell.
 // A line that only looks has a call too, the open: a line of any kind can be made.
 #[tactic(auto, unfolding(crate::specs::Made::call_for, crate::specs::Made::call_named))]
-pub fn call_for(line: Line) -> Call
+fn call_on(line: Line) -> Call
     ensures { result ≡ call_for line }
 {
     match line.kind {
@@ -37,6 +37,16 @@ pub fn call_for(line: Line) -> Call
     }
 }
 
+// The machine's call for what a line says: the open where it says nothing, or none of the calls.
+pub fn call_for(said: Said) -> Call
+    ensures { result ≡ call_said said }
+{
+    match said {
+        Said::Call(line) => call_on(line),
+        Said::Nothing | Said::Unknown => Call::Open,
+    }
+}
+
 // Makes the call of a line on the machine, with the value that stands on the line.
 pub fn make(
     books: Books,
@@ -53,7 +63,7 @@ pub fn make(
     let n = lines::value_of(content, line.kind, &mut value);
     call::stepped(
         books,
-        call_for(line),
+        call_on(line),
         &value[..n],
         table,
         drafts,

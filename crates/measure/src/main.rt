@@ -146,7 +146,8 @@ fn repeat_line(books: Books, rounds: u32, text: &[u8], lent: &mut Lent) -> Came 
     };
     let mut value = [0u8; lines::VALUE_ROOM];
     let n = lines::value_of(content, line.kind, &mut value);
-    repeat(books, rounds, making::call_for(line), &value[..n], lent)
+    let call = making::call_for(Said::Call(line));
+    repeat(books, rounds, call, &value[..n], lent)
 }
 
 // Makes the calls before the last one, which stands on a line by its number, and then does the rounds.

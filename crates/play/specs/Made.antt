@@ -37,6 +37,16 @@ pub record Played (books : Books) (line : Line) (content opening table drafts lo
   pub calls : only_looks line.kind ≡ false → let o = line_outcome books line content table drafts log in
       (after ≡ (answer_of o).books) × (opening' ≡ opening_after line.kind o.number o.after.table opening) × (table' ≡ o.after.table) × (drafts' ≡ o.after.drafts) × (log' ≡ log_after books.records o.entry log)
 
+-- what playing what a line says leaves of the books, the opening table and all that is lent to the machine: a call is played; where it says
+-- nothing, or none of the calls, all is as it was
+abbrev pub PlayedLent : Said → Books → List ℕ → List ℕ → List ℕ → List ℕ → List ℕ → Books → List ℕ → List ℕ → List ℕ → List ℕ → Type 0
+PlayedLent (Call line) books content opening table drafts log after opening' table' drafts' log' =
+    Played books line content opening table drafts log after opening' table' drafts' log'
+PlayedLent Nothing books content opening table drafts log after opening' table' drafts' log' =
+    (after ≡ books) × (opening' ≡ opening) × (table' ≡ table) × (drafts' ≡ drafts) × (log' ≡ log)
+PlayedLent Unknown books content opening table drafts log after opening' table' drafts' log' =
+    (after ≡ books) × (opening' ≡ opening) × (table' ≡ table) × (drafts' ≡ drafts) × (log' ≡ log)
+
 -- what playing what a line says leaves of the books and the room: a call is played; where it says nothing, or none of the calls, all is as it was
 abbrev pub PlayedSaid : Said → Books → List ℕ → Room → Books → Room → Type 0
 PlayedSaid (Call line) books content room after room' =

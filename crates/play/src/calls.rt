@@ -1,11 +1,11 @@
 // The calls of a script: the machine's call for a line is made, what it gives back is printed, and the books are handed on.
-ghost use Rattle.play.specs.Made.{Played};
+ghost use Rattle.play.specs.Made.{PlayedLent};
 
 use crate::{print_log, print_table, save};
 use machine::books::{Books, Told};
 use rules::numbers::GRANTED;
 use rules::sizes;
-use script::lines::{Line, LineKind};
+use script::lines::{Line, LineKind, Said};
 use script::words;
 use texts::buffer::Text;
 use texts::{answers, buffer};
@@ -78,20 +78,24 @@ fn look(
     }
 }
 
-// Plays a line. An open and a granted close begin a new day, whose opening table is the table as it is.
+// Plays what a line says; where that is nothing, or none of the calls, nothing is changed or printed.
+// An open and a granted close begin a new day, whose opening table is the table as it is.
 #[tactic(auto, unfolding(crate::specs::Made::line_outcome, crate::specs::Made::opening_after, texts::specs::Said::placed))]
 pub fn play(
     rt: &HostRuntime,
     books: Books,
-    line: Line,
+    said: Said,
     content: &[u8],
     opening: &mut [u8],
     table: &mut [u8],
     drafts: &mut [u8],
     log: &mut [u8],
 ) -> Books
-    ensures { Played books line content.now opening.old table.old drafts.old log.old result opening.new table.new drafts.new log.new }
+    ensures { PlayedLent said books content.now opening.old table.old drafts.old log.old result opening.new table.new drafts.new log.new }
 {
+    let Said::Call(line) = said else {
+        return books;
+    };
     let kind = line.kind;
     if kind.only_looks() {
         look(rt, kind, content, opening, table, log, books.records);

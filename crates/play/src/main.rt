@@ -77,23 +77,20 @@ fn play_whole(rt: &HostRuntime, books: Books, number: u64, held: usize, room: &m
     ensures { PlayedHeld (Some held) books room.old result room.new }
 {
     let content = words::content(buffer::front(&room.line, held));
-    match lines::parse(content) {
-        Said::Nothing => books,
-        Said::Unknown => {
-            print_unknown(rt, number);
-            books
-        }
-        Said::Call(call) => calls::play(
-            rt,
-            books,
-            call,
-            content,
-            &mut room.opening,
-            &mut room.table,
-            &mut room.drafts,
-            &mut room.log,
-        ),
+    let said = lines::parse(content);
+    if matches!(said, Said::Unknown) {
+        print_unknown(rt, number);
     }
+    calls::play(
+        rt,
+        books,
+        said,
+        content,
+        &mut room.opening,
+        &mut room.table,
+        &mut room.drafts,
+        &mut room.log,
+    )
 }
 
 // Plays the line that is held. A line that is longer than its buffer is none of the calls.
