@@ -9,13 +9,10 @@ use lib.Seq.{take_all, length-take-le, take-suc-set}
 use borrow.Author.Tests.{ne_eqb}
 use Rattle.std.proofs.lemmas.List.{take-append-le}
 use Rattle.basics.specs.Text.{text}
-use Rattle.rules.specs.declared.refusal.Refusal.{Refusal}
 use Rattle.rules.specs.Sizes.{yard}
 use Rattle.rules.specs.Numbers.{lent, first_reason}
-use Rattle.rules.specs.Refusals.{number_of}
 use Rattle.rules.specs.Checker.{checked}
 use Rattle.rules.specs.Report.{refused_line}
-use Rattle.rules.proofs.Answered.{refuses}
 use Rattle.texts.specs.Said.{placed, joined}
 use Rattle.texts.proofs.Fitting.{all_fit}
 use Rattle.accept.specs.Words.{most_kept, with_last, answer_line}
@@ -52,6 +49,7 @@ pub accepted_line : (out : List ℕ) {last : List ℕ} {end : ℕ} → (last, en
 unfolding text answer_line joined
 accepted_line out e h = all_fit out (text "accepted\n" ∷ []) e (omega arith)
 
-pub refused_answer : (r : Refusal) → refused_line (number_of r) ≡ answer_line (number_of r)
+-- a number that is not 0 is printed behind `refused`
+pub refused_answer : (number : ℕ) → (number ≡ 0 → ⊥) → refused_line number ≡ answer_line number
 unfolding answer_line
-refused_answer r = rw (ne_eqb (number_of r) 0 (λ e. omega (arith, refuses r, e)))
+refused_answer number h = rw (ne_eqb number 0 h)

@@ -1,16 +1,17 @@
 -- The words that the program `accept` is given as numbers, and the line that it answers.
-use Rattle.std.specs.Prelude.{ℕ, ◌+◌, cond, List, [], ◌∷◌, ◌++◌, eqb, ltb, length, take, replicate, set}
+use Rattle.std.specs.Prelude.{ℕ, ◌+◌, cond, List, [], ◌∷◌, ◌++◌, eqb, leb, ltb, length, take, replicate, set, Result, Ok, Err}
 use Rattle.basics.specs.Text.{text}
+use Rattle.rules.specs.Numbers.{granted}
 use Rattle.rules.specs.Report.{refused_line}
 use Rattle.script.specs.Numeral.{no_number, number_of}
 
--- the number that a word names; an empty word names none
-unfoldable pub word_number : List ℕ → ℕ
-word_number word = cond (eqb (length word) 0) no_number (number_of word)
+-- the number that a word names, if it is at most the greatest asked for; an empty word names none
+unfoldable pub word_number : List ℕ → ℕ → ℕ
+word_number word most = cond (eqb (length word) 0) no_number (cond (leb (number_of word) most) (number_of word) no_number)
 
 -- the number of 16 bits that a word names; a larger number is none
 unfoldable pub small_number : List ℕ → ℕ
-small_number word = cond (ltb (word_number word) 65536) (word_number word) no_number
+small_number word = word_number word 65535
 
 -- how many numbers are kept: one more than an order can have
 abbrev pub most_kept : ℕ
@@ -31,3 +32,8 @@ with_last n numbers = take most_kept (numbers ++ (n ∷ []))
 -- `accepted`, or `refused` and the number
 unfoldable pub answer_line : ℕ → List ℕ
 answer_line number = cond (eqb number 0) (text "accepted\n") (refused_line number)
+
+-- the number of an answer: 0 where it accepts
+abbrev pub number_in : {A : Type 0} → Result A ℕ → ℕ
+number_in (Ok _) = granted
+number_in (Err number) = number

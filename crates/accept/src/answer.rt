@@ -1,9 +1,10 @@
 // What is answered: the checker's answer for a saved day, and the line that it is printed as.
-ghost use Rattle.std.specs.Prelude.{◌≡◌, ◌≤◌, length, take, drop};
+ghost use Rattle.std.specs.Prelude.{◌≡◌, ◌≢◌, ◌≤◌, length, take, drop, Err, IfErr};
 ghost use Rattle.rules.specs.Sizes.{yard, table_bytes};
 ghost use Rattle.rules.specs.Refusals.{said};
 ghost use Rattle.rules.specs.Checker.{checked};
-ghost use Rattle.accept.specs.Words.{answer_line};
+ghost use Rattle.rules.specs.Report.{refused_line};
+ghost use Rattle.accept.specs.Words.{answer_line, number_in};
 
 use checker::proposal;
 use rules::refusal::Refusal;
@@ -22,11 +23,12 @@ pub fn of_day(input: &[u8], begin: u32, order: &[u16]) -> Result<(), Refusal>
     proposal::checked(opening, log, begin, order)
 }
 
-// `accepted`, or `refused` and the number, and the end of the line into the front of a buffer, and how many bytes they are.
+// `accepted`, or `refused` and the number, 0 too, and the end of the line into the front of a buffer, and how many bytes they are.
 #[tactic(auto, using(crate::proofs::Listing::accepted_line, crate::proofs::Listing::refused_answer), unfolding(basics::specs::Text::text))]
-pub fn line(out: &mut [u8], answer: Result<(), Refusal>) -> usize
+pub fn line(out: &mut [u8], answer: Result<(), u8>) -> usize
     requires { 16 ≤ length out.old }
-    ensures { take result out.new ≡ answer_line (said answer) }
+    ensures line { answer ≢ Err 0 → take result out.new ≡ answer_line (number_in answer) }
+    ensures refused { IfErr answer (λ number. take result out.new ≡ refused_line number) }
 {
     match answer {
         Ok(()) => {
@@ -34,6 +36,6 @@ pub fn line(out: &mut [u8], answer: Result<(), Refusal>) -> usize
             text.put(b"accepted\n");
             text.at
         }
-        Err(refusal) => refusal::refused(out, refusal.number()),
+        Err(number) => refusal::refused(out, number),
     }
 }

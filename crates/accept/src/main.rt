@@ -21,7 +21,7 @@ fn order(rt: &HostRuntime) -> Option<Numbers> {
     let mut numbers = Numbers::none();
     for i in 2..console::argument_count(rt) {
         let n = list::small_of(word_at(rt, i, &mut room)?)?;
-        numbers = numbers.with(n);
+        numbers = numbers.with(u64::from(n))?;
     }
     Some(numbers)
 }
@@ -38,7 +38,7 @@ fn ask(rt: &HostRuntime, begin: u32, numbers: &Numbers) -> Result<(), Refusal> {
 fn decide(rt: &HostRuntime) -> Result<(), Refusal> {
     let mut room = [0u8; 4096];
     let begin = word_at(rt, 1, &mut room)
-        .and_then(list::number_of)
+        .and_then(|word| list::number_of(word, u64::from(u32::MAX)))
         .ok_or(Refusal::Lent)?;
     let numbers = order(rt).ok_or(Refusal::Lent)?;
     ask(rt, begin, &numbers)
@@ -46,6 +46,7 @@ fn decide(rt: &HostRuntime) -> Result<(), Refusal> {
 
 fn main(rt: HostRuntime) {
     let mut out = [0u8; 16];
-    let end = answer::line(&mut out, decide(&rt));
+    let answer = decide(&rt).map_err(|refusal| refusal.number());
+    let end = answer::line(&mut out, answer);
     console::write(&rt, buffer::front(&out, end));
 }
