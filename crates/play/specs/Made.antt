@@ -1,5 +1,6 @@
 -- What playing a line of a script leaves.
-use Rattle.std.specs.Prelude.{◌≡◌, ℕ, Bool, true, false, cond, ◌&&◌, List, take, replicate, ◌==◌, Option, Some, None}
+use Rattle.std.specs.Prelude.{◌≡◌, ℕ, Bool, true, false, cond, ◌&&◌, List, take, replicate, ◌==◌, Option, Some, None, Result, Ok, Err}
+use Rattle.rules.specs.Numbers.{granted}
 use Rattle.rules.specs.State.{Outcome, log_after}
 use Rattle.texts.specs.Placed.{with_text}
 use Rattle.script.specs.Blanks.{content_of}
@@ -14,6 +15,10 @@ use Rattle.script.specs.declared.lines.LineKind.TheVariants.{Close, Open}
 use Rattle.script.specs.declared.lines.Said.{Said}
 use Rattle.script.specs.declared.lines.Said.TheVariants.{Nothing, Unknown, Call}
 use Rattle.play.specs.declared.Room.{Room}
+
+-- what a call gives by its number and its answer: the answer where it is granted, else the number of its refusal
+abbrev pub given_of : ℕ → ℕ → Result ℕ ℕ
+given_of number answer = cond (number == granted) (Ok answer) (Err number)
 
 -- the outcome of the machine's call for a line, with the value that stands on the line and an order buffer of zeros
 unfoldable pub line_outcome : Books → Line → List ℕ → List ℕ → List ℕ → List ℕ → Outcome

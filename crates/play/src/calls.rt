@@ -1,5 +1,6 @@
 // The calls of a script: the machine's call for a line is made, what it gives back is printed, and the books are handed on.
-ghost use Rattle.play.specs.Made.{PlayedLent};
+ghost use Rattle.std.specs.Prelude.{◌≡◌};
+ghost use Rattle.play.specs.Made.{given_of, PlayedLent};
 
 use crate::{print_log, print_table, save};
 use machine::books::{Books, Told};
@@ -7,11 +8,13 @@ use rules::numbers::GRANTED;
 use rules::sizes;
 use script::lines::{Line, LineKind, Said};
 use script::words;
+use texts::answers;
 use texts::buffer::Text;
-use texts::{answers, buffer};
 
 // What a call gives, or the number of its refusal.
-fn given(answer: Told) -> Result<u32, u8> {
+fn given(answer: Told) -> Result<u32, u8>
+    ensures { result ≡ given_of answer.number answer.answer }
+{
     if answer.number == GRANTED {
         Ok(answer.answer)
     } else {
@@ -41,8 +44,8 @@ fn print_answer<'a>(
             answers::value(&mut text, name, given.map(|_| shown));
         }
         LineKind::Order => {
-            let order = buffer::front(numbers, answer.answer as usize);
-            answers::order(&mut text, name, answer.number, order);
+            let count = answer.answer as usize;
+            answers::order(&mut text, name, answer.number, numbers, count);
         }
         LineKind::Begin | LineKind::Post => answers::handle(&mut text, name, given),
         _ => answers::number(&mut text, name, answer.number),

@@ -1,7 +1,8 @@
 // The lines that answers are printed as, each put together in a lent buffer, piece by piece.
-ghost use Rattle.std.specs.Prelude.{◌/◌, length};
+ghost use Rattle.std.specs.Prelude.{◌/◌, length, take};
 ghost use Rattle.texts.specs.Said.{Puts, then_number, then_value, number_line, handle_line, value_line, listed, order_line, celled, table_line, unknown_line};
 
+use crate::buffer;
 use crate::buffer::Text;
 use rules::{numbers, sizes};
 
@@ -72,13 +73,13 @@ fn list(out: &mut Text, numbers: &[u16])
     }
 }
 
-// A call that answers an order: its number, and the begin records that are given with it, whatever the number.
+// A call that answers an order: its number, and as many begin records as it counts, whatever the number.
 #[tactic(auto, using(crate::proofs::Saying::placed_append), unfolding(crate::specs::Said::order_line))]
-pub fn order(out: &mut Text, name: &[u8], number: u8, order: &[u16])
-    ensures { Puts out.old out.new (order_line name.now number order.now) }
+pub fn order(out: &mut Text, name: &[u8], number: u8, numbers: &[u16], count: usize)
+    ensures { Puts out.old out.new (order_line name.now number (take count numbers.now)) }
 {
     self::number(out, name, number);
-    list(out, order);
+    list(out, buffer::front(numbers, count));
 }
 
 // The values of a table's cells, each after a space.
