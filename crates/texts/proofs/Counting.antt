@@ -1,8 +1,9 @@
--- The digits of a number in decimal are those that the library writes. Assumes nothing.
-use Rattle.std.proofs.Common.{◌≡◌, refl, sym, ◌∙◌, ℕ, zero, suc, ◌+◌, ◌/◌, ◌%◌, ◌^◌, ◌<◌, ◌≤◌, List, [], ◌∷◌, ◌++◌, append_assoc, append-nil, arith, false}
+-- The digits of a number in decimal are those that the library writes, and at most twenty. Assumes nothing.
+use Rattle.std.proofs.Common.{◌≡◌, refl, sym, ◌∙◌, ℕ, zero, suc, ◌+◌, ◌/◌, ◌%◌, ◌^◌, ◌<◌, ◌≤◌, List, [], ◌∷◌, ◌++◌, append_assoc, append-nil, arith, length, false}
 use native.Mathlib.Nat.{pow-suc, div-lt_iff_lt-mul, zero-lt-suc}
 use native.Mathlib.Decide.{dec_lt}
 use borrow.Author.Tests.{lt-ltb, le-ltb, eq-eqb, ne_eqb}
+use Rattle.std.proofs.lemmas.Fmt.{length-decimal-le}
 use Rattle.std.specs.Fmt.{digits_onto, decimal, digit_glyph, digits as digits_written}
 use Rattle.basics.specs.Text.{digits}
 
@@ -40,3 +41,7 @@ digits_before (suc k) (suc m) n rest h small =
 pub digits_are : (n : ℕ) → n < 2 ^ 64 → decimal n ≡ digits 20 n
 unfolding digits_written
 digits_are n h = digits_before 19 63 n [] (omega arith) (omega arith) ∙ append-nil (digits 20 n)
+
+-- a number of 64 bits has at most twenty
+pub digits_fit : (n : ℕ) → n < 2 ^ 64 → length (decimal n) ≤ 20
+digits_fit n h = length-decimal-le 20 n (omega arith) (omega arith) h

@@ -4,7 +4,7 @@ ghost use Rattle.basics.specs.Text.{digits, decimal};
 ghost use Rattle.texts.specs.Letters.{hex_text};
 ghost use Rattle.texts.specs.Said.{Puts};
 
-use crate::hex;
+use crate::{hex, numbers};
 
 // The buffer, and the place after what is put already.
 #[derive(Drop)]
@@ -45,12 +45,11 @@ impl<'a> Text<'a> {
     }
 
     // A number in decimal.
-    #[tactic(auto, using(crate::proofs::Counting::digits_are))]
     pub fn put_number(&mut self, n: u64)
         ensures { Puts self.old self.new (digits 20 n ∷ []) }
     {
-        let mut spelled = itoa::Buffer::new();
-        self.put(spelled.format(n).as_bytes());
+        let spelled = numbers::decimal(n);
+        self.put(&spelled.text[spelled.from..]);
     }
 
     // A number of 16 bits in decimal: five digits at most.

@@ -4,4 +4,5 @@
 pub mod answers;
 pub mod buffer;
 pub mod hex;
+pub mod numbers;
 pub mod refusal;
