@@ -1,5 +1,6 @@
 -- The words that the program `accept` is given as numbers, and the line that it answers.
-use Rattle.std.specs.Prelude.{ℕ, ◌+◌, cond, List, [], ◌∷◌, ◌++◌, eqb, leb, ltb, length, take, replicate, set, Result, Ok, Err}
+use Rattle.std.specs.Prelude.{ℕ, ◌+◌, cond, List, [], ◌∷◌, ◌++◌, eqb, leb, ltb, length, take, replicate, set, Option, Some, None, Result, Ok, Err}
+use Rattle.std.specs.Borrow.{Bor}
 use Rattle.basics.specs.Text.{text}
 use Rattle.rules.specs.Numbers.{granted}
 use Rattle.rules.specs.Report.{refused_line}
@@ -28,6 +29,12 @@ with_number n (kept, count) = cond (ltb count most_kept) (set kept count n, coun
 -- the numbers that are kept, with one more if there is room
 unfoldable pub with_last : ℕ → List ℕ → List ℕ
 with_last n numbers = take most_kept (numbers ++ (n ∷ []))
+
+-- one word more: a number of 16 bits is kept while there is room; there are none any more from the first word on that is missing or no such number
+unfoldable pub with_word : Option (Bor (List ℕ)) → Option (List ℕ × ℕ) → Option (List ℕ × ℕ)
+with_word (Some word) (Some numbers) = let n = small_number word.now in cond (leb n 65535) (Some (with_number n numbers)) None
+with_word (Some word) None = None
+with_word None numbers = None
 
 -- `accepted`, or `refused` and the number
 unfoldable pub answer_line : ℕ → List ℕ

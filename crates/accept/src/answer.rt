@@ -6,6 +6,7 @@ ghost use Rattle.rules.specs.Checker.{checked};
 ghost use Rattle.rules.specs.Report.{refused_line};
 ghost use Rattle.accept.specs.Words.{answer_line, number_in};
 
+use crate::list::Numbers;
 use checker::proposal;
 use rules::refusal::Refusal;
 use rules::sizes;
@@ -13,7 +14,7 @@ use texts::buffer::Text;
 use texts::refusal;
 
 // The checker's answer: lent if what was read is less than an opening table.
-pub fn of_day(input: &[u8], begin: u32, order: &[u16]) -> Result<(), Refusal>
+fn of_day(input: &[u8], begin: u32, order: &[u16]) -> Result<(), Refusal>
     ensures { said result ≡ checked yard (take (table_bytes yard) input.now) (drop (table_bytes yard) input.now) begin order.now }
 {
     if input.len() < sizes::TABLE_BYTES {
@@ -21,6 +22,13 @@ pub fn of_day(input: &[u8], begin: u32, order: &[u16]) -> Result<(), Refusal>
     }
     let (opening, log) = input.split_at(sizes::TABLE_BYTES);
     proposal::checked(opening, log, begin, order)
+}
+
+// The same for the numbers that are kept.
+pub fn checked(input: &[u8], begin: u32, numbers: &Numbers) -> Result<(), Refusal>
+    ensures { said result ≡ checked yard (take (table_bytes yard) input.now) (drop (table_bytes yard) input.now) begin (take numbers.now.count numbers.now.kept) }
+{
+    of_day(input, begin, numbers.listed())
 }
 
 // `accepted`, or `refused` and the number, 0 too, and the end of the line into the front of a buffer, and how many bytes they are.

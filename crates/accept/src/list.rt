@@ -1,7 +1,7 @@
 // The numbers of a proposed order, word by word.
-ghost use Rattle.std.specs.Prelude.{◌≡◌, ◌<◌, ◌≤◌, ◌↔◌, [], take, IsNone, IfSome};
+ghost use Rattle.std.specs.Prelude.{◌≡◌, ◌<◌, ◌≤◌, ◌↔◌, [], take, option_map, IsNone, IfSome};
 ghost use Rattle.script.specs.Numeral.{named};
-ghost use Rattle.accept.specs.Words.{word_number, small_number, most_kept, none_listed, with_number, with_last};
+ghost use Rattle.accept.specs.Words.{word_number, small_number, most_kept, none_listed, with_number, with_last, with_word};
 
 use checker::proposal::MOST_KEPT;
 use script::numbers;
@@ -70,4 +70,13 @@ impl Numbers {
     {
         &self.kept[..self.count]
     }
+}
+
+// One word more. There are no numbers any more from the first word on that is missing, or is no number of 16 bits.
+#[tactic(auto, unfolding(crate::specs::Words::with_word))]
+pub fn with_word(numbers: Option<Numbers>, word: Option<&[u8]>) -> Option<Numbers>
+    ensures { option_map (λ n. (n.kept, n.count)) result ≡ with_word word.entry (option_map (λ n. (n.kept, n.count)) numbers) }
+{
+    let n = small_of(word?)?;
+    numbers?.with(u64::from(n))
 }

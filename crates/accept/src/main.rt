@@ -18,12 +18,11 @@ fn word_at<'a>(rt: &HostRuntime, i: usize, room: &'a mut [u8; 4096]) -> Option<&
 // The numbers of the order: every argument from the second on. None if one of them is no number of 16 bits.
 fn order(rt: &HostRuntime) -> Option<Numbers> {
     let mut room = [0u8; 4096];
-    let mut numbers = Numbers::none();
+    let mut numbers = Some(Numbers::none());
     for i in 2..console::argument_count(rt) {
-        let n = list::small_of(word_at(rt, i, &mut room)?)?;
-        numbers = numbers.with(u64::from(n))?;
+        numbers = list::with_word(numbers, word_at(rt, i, &mut room));
     }
-    Some(numbers)
+    numbers
 }
 
 // The checker's answer for what is read from standard input. A saved day has at most 256 + 64,016 bytes. One byte more is read, so that a
@@ -31,7 +30,7 @@ fn order(rt: &HostRuntime) -> Option<Numbers> {
 fn ask(rt: &HostRuntime, begin: u32, numbers: &Numbers) -> Result<(), Refusal> {
     let mut input = [0u8; sizes::TABLE_BYTES + sizes::LOG_BYTES + 1];
     let n = console::read_full(rt, &mut input);
-    answer::of_day(&input[..n], begin, numbers.listed())
+    answer::checked(&input[..n], begin, numbers)
 }
 
 // What is answered: lent, before all else, if a word is no number.
