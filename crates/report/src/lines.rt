@@ -37,7 +37,7 @@ fn standing(out: &mut Text, its: Standing)
 
 // The first line: records, commits with posts.
 #[tactic(auto, using(texts::proofs::Saying::placed_append), unfolding(crate::specs::Reported::first_told, texts::specs::Said::placed, basics::specs::Text::text))]
-fn first(out: &mut Text, records: u16, total: u16)
+pub fn first(out: &mut Text, records: u16, total: u16)
     ensures { Puts out.old out.new (first_told records total) }
 {
     labelled(out, b"records ", records);
@@ -60,7 +60,7 @@ fn line(out: &mut Text, its: Transaction)
 
 // The lines of a well laid out log's transactions, by begin record.
 #[tactic(auto, using(crate::proofs::Telling::told_none), unfolding(texts::specs::Said::placed))]
-fn transactions(out: &mut Text, log: &[u8], records: u16, z: Size)
+pub fn transactions(out: &mut Text, log: &[u8], records: u16, z: Size)
     requires { (well_laid_out z log.now ≡ true) × (records ≡ records_in log.now) }
     ensures { Puts out.old out.new (all_told log.now records) }
 {
