@@ -1,3 +1,2 @@
 pub mod ByPlaces
-pub mod Mapped
 pub mod Settled
