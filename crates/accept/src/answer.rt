@@ -14,7 +14,7 @@ use texts::buffer::Text;
 use texts::refusal;
 
 // The checker's answer: lent if what was read is less than an opening table.
-fn of_day(input: &[u8], begin: u32, order: &[u16]) -> Result<(), Refusal>
+pub fn of_day(input: &[u8], begin: u32, order: &[u16]) -> Result<(), Refusal>
     ensures { said result ≡ checked yard (take (table_bytes yard) input.now) (drop (table_bytes yard) input.now) begin order.now }
 {
     if input.len() < sizes::TABLE_BYTES {
