@@ -1,4 +1,5 @@
 // What is asked of each call, in the order of the numbers. `value`, `table`, `drafts`, `log` and `numbers` are the lengths of what is lent.
+// Each is compiled as a call of its own: what a call does then stands alone, and its books need no room that is set to zero first.
 ghost use Rattle.std.specs.Prelude.{◌≡◌};
 ghost use Rattle.rules.specs.Books.{books_at};
 ghost use Rattle.rules.specs.Numbers.{granted, first_reason};
@@ -17,6 +18,7 @@ use rules::{Caller, Controller, refusal};
 use survey::search;
 
 // Begin: 1, 2, 6, 7.
+#[inline(never)]
 pub fn of_begin(at: Controller, log: usize) -> Result<(), Refusal>
     ensures { said result ≡ first_reason (begin_reasons at.entry.limits.size log (books_at at.entry)) }
 {
@@ -26,6 +28,7 @@ pub fn of_begin(at: Controller, log: usize) -> Result<(), Refusal>
 }
 
 // Write: 1, 2, 3, 4, 5, 7.
+#[inline(never)]
 pub fn of_write(
     at: Controller,
     handle: u32,
@@ -42,6 +45,7 @@ pub fn of_write(
 }
 
 // Read: 1, 2, 3, 4, 5, 7.
+#[inline(never)]
 pub fn of_read(
     at: Controller,
     handle: u32,
@@ -81,6 +85,7 @@ fn of_look(
 
 // Show: the read's own number, then 1, 2, 3, 4, 5.
 // A number: the read's own may be any, also one that document 01 does not name.
+#[inline(never)]
 pub fn of_show(at: Controller, given: u8, handle: u32, cell: u32, table: usize, drafts: usize) -> u8
     ensures { result ≡ first_reason (show_reasons at.entry.limits.size table drafts (books_at at.entry) given handle cell) }
 {
@@ -91,6 +96,7 @@ pub fn of_show(at: Controller, given: u8, handle: u32, cell: u32, table: usize, 
 }
 
 // Commit: 1, 2, 3, 4.
+#[inline(never)]
 pub fn of_commit(
     at: Controller,
     handle: u32,
@@ -110,6 +116,7 @@ pub fn of_commit(
 }
 
 // Give up: 1, 2, 3, 4.
+#[inline(never)]
 pub fn of_give_up(at: Controller, handle: u32, log: usize) -> Result<(), Refusal>
     ensures { said result ≡ first_reason (give_up_reasons at.entry.limits.size log (books_at at.entry) handle) }
 {
@@ -118,6 +125,7 @@ pub fn of_give_up(at: Controller, handle: u32, log: usize) -> Result<(), Refusal
 }
 
 // Post: 1, 2, 5, 6, 7.
+#[inline(never)]
 pub fn of_post(
     at: Controller,
     cell: u32,
@@ -135,6 +143,7 @@ pub fn of_post(
 }
 
 // Order: 1, 2, 3, then 2 for a cycle in the company.
+#[inline(never)]
 pub fn of_order(at: Controller, handle: u32, numbers: usize) -> Result<(), Refusal>
     ensures { said result ≡ first_reason (order_reasons at.entry.limits.size numbers (books_at at.entry) handle) }
 {
@@ -145,6 +154,7 @@ pub fn of_order(at: Controller, handle: u32, numbers: usize) -> Result<(), Refus
 }
 
 // Close: 1, 2, 8.
+#[inline(never)]
 pub fn of_close(at: Controller, log: usize) -> Result<(), Refusal>
     ensures { said result ≡ first_reason (close_reasons at.entry.limits.size log (books_at at.entry)) }
 {
